@@ -1,0 +1,5 @@
+pub mod Fault
+pub mod Held
+pub mod Node
+pub mod Falls
+pub mod Shape
