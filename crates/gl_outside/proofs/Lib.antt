@@ -1,0 +1,3 @@
+pub mod FaultLemmas
+mod SinkLemmas
+pub mod SourceLemmas
