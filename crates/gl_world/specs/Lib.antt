@@ -1,0 +1,4 @@
+pub mod Node
+pub mod History
+pub mod World
+pub mod Next

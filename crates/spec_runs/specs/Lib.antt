@@ -1,0 +1,9 @@
+pub mod Plan
+pub mod Building
+pub mod View
+pub mod State
+pub mod Shown
+pub mod Step
+pub mod Run
+pub mod Fits
+pub mod Rows

@@ -1,0 +1,64 @@
+-- A run: the entries that the actors make, in the order in which they take the lock.
+use Rattle.std.specs.Prelude.{◌==◌, ◌++◌, ◌-◌, ℕ, suc, List, [], ◌∷◌, length, fold, unwrap_or, slice_get, Bool, false, if◌then◌else◌}
+use Rattle.gl_outside.specs.declared.gate.Actor.{Actor}
+use Rattle.gl_outside.specs.declared.gate.Actor.TheVariants.{Writer, Proxy}
+use Rattle.gl_types.specs.declared.command.Command.{Command}
+use Rattle.gl_types.specs.declared.command.Reply.{Reply}
+use Rattle.spec_runs.specs.Plan.{Plan, commands_of, sections_of}
+use Rattle.spec_runs.specs.State.{State, opening}
+use Rattle.spec_runs.specs.Step.{state_after, replies_to}
+use Rattle.spec_runs.specs.Shown.{shown}
+use Rattle.spec_value.specs.Tree.{Tree}
+
+-- whether an actor is this writer
+abbrev pub is_writer : ℕ → Actor → Bool
+is_writer writer (Writer w) = w == writer
+is_writer writer (Proxy p) = false
+
+-- how many sections of a writer an order takes
+abbrev pub taken_by : ℕ → List Actor → ℕ
+taken_by writer [] = 0
+taken_by writer (a ∷ order) = if is_writer writer a then suc (taken_by writer order) else taken_by writer order
+
+-- how many of its sections an order leaves to a writer
+abbrev pub left_to : Plan → ℕ → List Actor → ℕ
+left_to p writer order = length (sections_of p writer) - taken_by writer order
+
+-- the commands that an actor's next entry takes: a writer's next section; no plan has a proxy yet
+abbrev pub next_commands : Plan → List Actor → Actor → List Command
+next_commands p order (Writer w) = commands_of p w (taken_by w order)
+next_commands p order (Proxy n) = []
+
+-- the order so far, the state after it, and the replies of each entry
+pub record Run : Type 0 where
+  pub order : List Actor
+  pub state : State
+  pub replies : List (List Reply)
+
+-- before the first entry
+abbrev pub start : Plan → Run
+start p = record { order = []; state = opening p; replies = [] }
+
+-- the run once these commands were an actor's entry
+abbrev pub entered : Run → Actor → List Command → Run
+entered r a commands = record {
+  order = r.order ++ a ∷ [];
+  state = state_after r.state commands;
+  replies = r.replies ++ replies_to r.state commands ∷ [];
+}
+
+-- one entry more
+abbrev pub entry : Plan → Run → Actor → Run
+entry p r a = entered r a (next_commands p r.order a)
+
+-- the run of a plan in an order
+abbrev pub run : Plan → List Actor → Run
+run p order = fold (entry p) (start p) order
+
+-- the replies of the entry at a place; none where there is no such place
+abbrev pub replies_at : Plan → List Actor → ℕ → List Reply
+replies_at p order place = unwrap_or (slice_get (run p order).replies place) []
+
+-- what a list shows after an order
+abbrev pub shown_after : Plan → List Actor → ℕ → List Tree
+shown_after p order list = shown (run p order).state list
