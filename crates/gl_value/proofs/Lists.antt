@@ -1,11 +1,11 @@
 -- Comparing lists element by element, and the sizes of elements.
 use Rattle.std.specs.Prelude.{◌≡◌, ℕ, ◌+◌, ◌<◌, ◌≤◌, min, List, [], ◌∷◌, length, get_or, drop, suc, zero}
-use Rattle.std.proofs.Common.{arith, ap, sym, ◌∙◌, add-one, drop-cons}
-use Rattle.std.specs.Ordering.{MatchOrdering, ordering_then, nat_cmp}
+use Rattle.std.proofs.Common.{arith}
+use Rattle.std.specs.Ordering.{MatchOrdering, nat_cmp}
 use Rattle.std.specs.Cmp.{nat_cmp_is}
 use Rattle.std.specs.Cmp.Lexicographic.{slice_cmp}
 use Rattle.std.proofs.lemmas.List.{length-drop}
-use Rattle.spec_value.specs.Tree.{Tree, tree_size, trees, trees_size, list, list-trees}
+use Rattle.spec_value.specs.Tree.{Tree, tree_size, trees, trees_size}
 use Rattle.spec_value.specs.Order.{cmp}
 
 ranked_ends : (us vs : List Tree) (m n i : ℕ) → length us + i ≡ m → length vs + i ≡ n → i ≡ min m n → MatchOrdering (slice_cmp cmp us vs) (m < n) (m ≡ n) (n < m)
