@@ -1,0 +1,9 @@
+pub mod Counting
+pub mod Cycles
+pub mod Finding
+pub mod Leasts
+pub mod Levels
+pub mod OpenCounts
+pub mod Part
+pub mod Same
+pub mod Underway

@@ -1,0 +1,4 @@
+pub mod Distances
+pub mod Fault
+pub mod Shortest
+pub mod Waiting
