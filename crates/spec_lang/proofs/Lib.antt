@@ -1,0 +1,2 @@
+pub mod SortingLaws
+pub mod Lists
