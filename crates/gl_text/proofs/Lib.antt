@@ -1,0 +1,6 @@
+pub mod CutLaws
+pub mod NumberLaws
+pub mod LineLaws
+pub mod LineAgain
+pub mod TextLaws
+pub mod Names

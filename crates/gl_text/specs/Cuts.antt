@@ -1,0 +1,21 @@
+-- How bytes are cut: at a byte, behind a beginning, and at each line feed.
+use Rattle.std.specs.Prelude.{ℕ, ◌==◌, if◌then◌else◌, List, [], ◌∷◌, length, take, drop, Option, Some, None, option_map, bytes_eq}
+
+-- the bytes ahead of the first that is this one, and those behind it; none where it doesn't stand
+abbrev pub cut : ℕ → List ℕ → Option (List ℕ × List ℕ)
+cut c [] = None
+cut c (b ∷ bs) = if b == c then Some ([], bs) else option_map (λ parts. (b ∷ parts.0, parts.1)) (cut c bs)
+
+-- the bytes behind a beginning; none where they don't begin so
+abbrev pub behind : List ℕ → List ℕ → Option (List ℕ)
+behind beginning bytes = if bytes_eq (take (length beginning) bytes) beginning then Some (drop (length beginning) bytes) else None
+
+-- the lines with a byte more at the front of the first
+abbrev pub with_front : ℕ → List (List ℕ) → List (List ℕ)
+with_front b [] = (b ∷ []) ∷ []
+with_front b (line ∷ lines) = (b ∷ line) ∷ lines
+
+-- the lines of a text, without their line feeds; the last line feed may lack
+abbrev pub lines_in : List ℕ → List (List ℕ)
+lines_in [] = []
+lines_in (b ∷ bs) = if b == 10 then [] ∷ lines_in bs else with_front b (lines_in bs)

@@ -1,0 +1,68 @@
+//! Texts that are plans, and texts that are none.
+
+use crate::read_plan;
+use std::test::Fail;
+
+const SPELLED: [&[u8]; 9] = [
+    b"glaze 1\n",
+    b"glaze 1",
+    b"glaze 1\nsource s\nfilter f s . = 5\nwriter\nsection\nadd s 5\nadd s 7\nremove s 0\nremove s 9\n",
+    b"glaze 1\nsource s\nfilter f s all\nfilter g f none\nfilter h g . = -9223372036854775808\nwriter",
+    b"glaze 1\nsource abcdefghijklmnopqrstuvwxyz_01234\n",
+    b"glaze 1\nsource maya\n",
+    b"glaze 1\nwriter\nsection\nsection\n",
+    b"glaze 1\nsource s\nwriter\nsection\nadd s 9223372036854775807\n",
+    b"glaze 1\nsource s\nwriter\nsection\nremove s 4294967295\n",
+];
+
+const NOT_SPELLED: [&[u8]; 38] = [
+    b"",
+    b"\n",
+    b"glaze 2\n",
+    b"glaze 1 \n",
+    b"glaze 1\r\n",
+    b"glaze 1\n\n",
+    b"glaze 1\n\nwriter\n",
+    b"glaze 1\nsource\n",
+    b"glaze 1\nsource \n",
+    b"glaze 1\nsource s \n",
+    b"glaze 1\nsource  s\n",
+    b"glaze 1\nsource 7s\n",
+    b"glaze 1\nsource may\n",
+    b"glaze 1\nsource S\n",
+    b"glaze 1\nsource \xc3\xa4\n",
+    b"glaze 1\nsource abcdefghijklmnopqrstuvwxyz_012345\n",
+    b"glaze 1\nsource s\nsource s\n",
+    b"glaze 1\nsource s\nsorted o s .\n",
+    b"glaze 1\nfilter f s all\nsource s\n",
+    b"glaze 1\nfilter f f all\n",
+    b"glaze 1\nsource s\nfilter f s any\n",
+    b"glaze 1\nsource s\nfilter f s . = 05\n",
+    b"glaze 1\nsource s\nfilter f s . = -0\n",
+    b"glaze 1\nsource s\nfilter f s . = +5\n",
+    b"glaze 1\nsource s\nfilter f s . = \n",
+    b"glaze 1\nsource s\nfilter f s . = 9223372036854775808\n",
+    b"glaze 1\nwriter\nsource s\n",
+    b"glaze 1\nwriter\nwriter\n",
+    b"glaze 1\nwriter \n",
+    b"glaze 1\nsection\n",
+    b"glaze 1\nsource s\nadd s 5\n",
+    b"glaze 1\nsource s\nwriter\nadd s 5\n",
+    b"glaze 1\nsource s\nwriter\nsection\nadd t 5\n",
+    b"glaze 1\nsource s\nfilter f s all\nwriter\nsection\nadd f 5\n",
+    b"glaze 1\nsource s\nwriter\nsection\nadd s x\n",
+    b"glaze 1\nsource s\nwriter\nsection\nremove s 4294967296\n",
+    b"glaze 1\nsource s\nwriter\nsection\nremove s -1\n",
+    b"glaze 1\nsource s\nwriter\nsection\nremove s 00\n",
+];
+
+#[test]
+fn reads_plans_alone(rt: HostRuntime) -> Result<(), Fail> {
+    for text in SPELLED {
+        assert!(rt; read_plan(rt.alloc(), text)?.is_some(), "{text:?}");
+    }
+    for text in NOT_SPELLED {
+        assert!(rt; read_plan(rt.alloc(), text)?.is_none(), "{text:?}");
+    }
+    Ok(())
+}
