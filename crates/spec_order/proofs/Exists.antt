@@ -109,9 +109,10 @@ order_or_cycle n edges ends = turns_grow n n edges [] ends (front_nil n edges) (
 
 -- the order exists exactly where there is no cycle
 pub order_exists : (n : ℕ) (edges : List (ℕ × ℕ)) → AreWithin n edges → HasOrder n edges ↔ (¬ HasCycle edges)
-order_exists n edges ends =
-    (λ h. acyclic_from_IsOrder n edges (h.0) ends h.1,
-     λ free. elim (order_or_cycle n edges ends) as (λ _. HasOrder n edges) [ inl o ↦ (turns n edges, o) | inr c ↦ absurd (free c) ])
+order_exists n edges ends = (
+  λ h. acyclic_from_IsOrder n edges (h.0) ends h.1,
+  λ free. elim (order_or_cycle n edges ends) as (λ _. HasOrder n edges) [ inl o ↦ (turns n edges, o) | inr c ↦ absurd (free c) ],
+)
 
 -- any order is `turns`
 pub turns-from_IsOrder : (n : ℕ) (edges : List (ℕ × ℕ)) (xs : List ℕ) → AreWithin n edges → IsOrder n edges xs → xs ≡ turns n edges

@@ -50,7 +50,6 @@ front_push n edges xs k f next i l =
 pub front_nil : (n : ℕ) (edges : List (ℕ × ℕ)) → IsFront n edges []
 front_nil n edges i l = absurd (omega arith)
 
-
 next_unique : (n : ℕ) (edges : List (ℕ × ℕ)) (placed : List ℕ) (a b : ℕ) → IsNext n edges placed a → IsNext n edges placed b → a ≡ b
 next_unique n edges placed a b p q =
     elim (cases_order a b) as (λ _. a ≡ b) [
