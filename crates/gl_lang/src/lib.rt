@@ -13,6 +13,6 @@ mod tests;
 pub use func::{Func, FuncShape, Funcs};
 pub use kids::Kids;
 pub use matcher::{Matcher, MatcherShape, Matchers};
-pub use order::{Key, Keys, Order};
+pub use order::{Key, Keys, Order, key_classes};
 pub use path::Path;
 pub use spec_lang::{Bounds, EditKind, Test};

@@ -1,7 +1,8 @@
 //! Orders by keys.
 
 ghost use Rattle.std.specs.Prelude.{◌≡◌, ◌↔◌, IfOk, IsTrue};
-ghost use Rattle.spec_lang.specs.Sorting.{key_cmp, order_cmp};
+ghost use Rattle.std.specs.Cmp.{IsEquivalence};
+ghost use Rattle.spec_lang.specs.Sorting.{key_cmp, order_cmp, same_key};
 
 use crate::path::{Path, same_path, value_at};
 use gl_value::{Compare, Items, Steps, Value};
@@ -94,6 +95,13 @@ impl Order {
     {
         same_keys(self.keys.as_slice(), other.keys.as_slice())
     }
+}
+
+/// The law that values of equal key fall into classes: equality of keys is an equivalence. It does nothing.
+pub fn key_classes(order: &Order)
+    ensures { IsEquivalence (same_key order.now) }
+{
+    let _ = order;
 }
 
 fn copies(alloc: Global, keys: &[Key]) -> Result<Vec<Key>, AllocError>

@@ -55,7 +55,7 @@ digits_lack c (d ∷ ds) low all =
     let p = digit_from_value d all.0 in
     and_from (not (eqb d c)) (lacks c ds) (not_from_false (eqb d c) (ne_eqb d c (λ same. absurd (omega (arith, p.0))))) (digits_lack c ds low all.1)
 
-decimal_lacks : (c n : ℕ) → c < 45 → n < 2 ^ 64 → lacks c (decimal n) ≡ true
+pub decimal_lacks : (c n : ℕ) → c < 45 → n < 2 ^ 64 → lacks c (decimal n) ≡ true
 decimal_lacks c n low small = digits_lack c (decimal n) low (decimal_is_IsNumeral n small).0.1
 
 signed_lacks : (c : ℕ) (z : ℤ) → c < 45 → FitsSigned w64 z → lacks c (signed_decimal z) ≡ true

@@ -9,7 +9,9 @@ mod lists;
 mod number;
 mod plan_text;
 
+pub use cuts::cut;
 pub use gl_plan::Plan;
+pub use number::index;
 pub use plan_text::{one_plan, read_plan};
 
 #[cfg(test)]

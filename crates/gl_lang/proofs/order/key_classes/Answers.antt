@@ -1,0 +1,5 @@
+use Rattle.spec_lang.proofs.SortingLaws.{same_key_equivalence}
+use Rattle.gl_lang.proofs.order.key_classes.Goals as goal
+
+pub returns : goal.returns
+returns c = same_key_equivalence c.args.order.now
