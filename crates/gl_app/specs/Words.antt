@@ -1,0 +1,37 @@
+-- How the words of a call are read.
+use Rattle.std.specs.Prelude.{ℕ, ◌==◌, if◌then◌else◌, List, [], ◌∷◌, codes, Option, Some, None, option_map, option_and_then, bytes_eq}
+use Rattle.std.specs.declared.vec.Vec.{Vec}
+use Rattle.gl_outside.specs.declared.gate.Actor.{Actor}
+use Rattle.gl_outside.specs.declared.gate.Actor.TheVariants.{Writer, Proxy}
+use Rattle.gl_text.specs.Numbers.{index_in}
+use Rattle.gl_text.specs.Cuts.{with_front}
+
+-- the actors of an order that was read
+abbrev pub entries_of : {X Y : Type 0} → Vec X Y → List X
+entries_of order = order.items
+
+-- the actor that the bytes spell
+unfoldable pub actor_in : List ℕ → Option Actor
+actor_in [] = None
+actor_in (b ∷ bs) = if b == 119 then option_map Writer (index_in bs) else if b == 112 then option_map Proxy (index_in bs) else None
+
+-- the bytes between commas
+abbrev pub pieces : List ℕ → List (List ℕ)
+pieces [] = [] ∷ []
+pieces (b ∷ bs) = if b == 44 then [] ∷ pieces bs else with_front b (pieces bs)
+
+-- the actors that the pieces spell, one each
+abbrev pub actors_in : List (List ℕ) → Option (List Actor)
+actors_in [] = Some []
+actors_in (piece ∷ pieces) = option_and_then (λ a. option_map (λ order. a ∷ order) (actors_in pieces)) (actor_in piece)
+
+-- the order that the bytes spell
+abbrev pub order_in : List ℕ → Option (List Actor)
+order_in bytes = if bytes_eq bytes (codes "-") then Some [] else actors_in (pieces bytes)
+
+-- the order whose replay the words ask for
+abbrev pub asked : List (List ℕ) → Option (List Actor)
+asked [] = None
+asked (keyword ∷ []) = None
+asked (keyword ∷ order ∷ []) = if bytes_eq keyword (codes "replay") then order_in order else None
+asked (keyword ∷ order ∷ more ∷ words) = None

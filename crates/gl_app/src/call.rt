@@ -1,0 +1,64 @@
+//! The call that does a run without threads.
+
+ghost use Rattle.std.specs.Prelude.{◌≡◌, ◌+◌, ◌⊎◌, ℕ, length};
+ghost use Rattle.gl_outside.specs.Faults.{Rose};
+ghost use Rattle.spec_texts.specs.Order.{HaveNoForm};
+ghost use Rattle.gl_app.specs.Answer.{text_at};
+ghost use Rattle.gl_app.specs.Call.{Answered, IsAnswer, ReportsRun, HasRead, IsUsage, IsAhead, MostText, Gives};
+
+use crate::answer::Answer;
+use crate::outcome::{Stop, answer_words};
+use crate::status::Status;
+use gl_outside::{Given, Sink, Source};
+use gl_value::Text;
+use gl_world::RunName;
+use std::alloc::Global;
+
+struct Replay;
+
+impl RunName for Replay {}
+
+/// Does what the words ask for: it reads the source to its end, and gives the sink one text. It takes memory for the
+/// bytes, their plan and its world, and for the text, which is made whole before the sink is given anything.
+pub fn plain<S: Source, K: Sink>(
+    alloc: Global,
+    words: &[Text],
+    source: &mut S,
+    sink: &mut K,
+) -> Status
+
+    // Where no count of faults rises, the words and the source's bytes fix the status and the text.
+    ensures answer { ¬ Rose (S.faults source.old) (S.faults source.new) → ¬ Rose (K.faults sink.old) (K.faults sink.new) → (result ≡ Status.Memory) ⊎ Answered words.now (S.remaining source.old) (K.contents sink.old) (K.contents sink.new) result }
+    ensures by_status { IsAnswer words.now (S.remaining source.old) (K.contents sink.old) (K.contents sink.new) result }
+    ensures headline { result ≡ Status.Done → ReportsRun words.now (S.remaining source.old) (K.contents sink.old) (K.contents sink.new) }
+
+    // What was taken of the source.
+    ensures reading { HasRead (S.remaining source.old) (S.remaining source.new) result }
+    ensures no_form { HaveNoForm words.now → IsUsage result × (source.new ≡ source.old) }
+    ensures usage { result ≡ Status.Usage → HaveNoForm words.now }
+
+    // The faults.
+    ensures read { result ≡ Status.Read → Rose (S.faults source.old) (S.faults source.new) }
+    ensures write { result ≡ Status.Write → Rose (K.faults sink.old) (K.faults sink.new) }
+    ensures untouched { IsAhead result → sink.new ≡ sink.old }
+    ensures sound { S.never_fails source.old → S.faults source.new ≡ S.faults source.old }
+    ensures room { (n : ℕ) → MostText words.now (S.remaining source.old) n → K.has_room sink.old n → K.faults sink.new ≡ K.faults sink.old }
+{
+    match answer_words::<Replay, S>(alloc, words, source) {
+        Ok(answer) => give(sink, &answer),
+        Err(Stop::Read) => Status::Read,
+        Err(Stop::Memory) => Status::Memory,
+    }
+}
+
+// Gives the sink the text of an answer.
+fn give<K: Sink>(sink: &mut K, answer: &Answer) -> Status
+    ensures given { Gives (K.contents sink.old) (K.contents sink.new) answer.now result }
+    ensures write { result ≡ Status.Write → Rose (K.faults sink.old) (K.faults sink.new) }
+    ensures room { (n : ℕ) → K.has_room sink.old (length (text_at answer.now) + n) → K.faults sink.new ≡ K.faults sink.old }
+{
+    match sink.give(answer.text()) {
+        Given::All => answer.status(),
+        Given::Failed => Status::Write,
+    }
+}

@@ -1,0 +1,17 @@
+//! The top call of the program: it reads the words, takes the source whole, and gives the sink the text of what it
+//! came to. What that is for which words and bytes is defined in `spec_texts`.
+//! A text is made whole before the sink is given anything.
+#![tactic(auto)]
+
+mod answer;
+mod call;
+mod outcome;
+mod reading;
+mod replaying;
+mod status;
+mod words;
+
+pub use call::plain;
+pub use gl_outside::{Sink, Source};
+pub use gl_value::Text;
+pub use status::Status;

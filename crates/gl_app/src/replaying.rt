@@ -1,0 +1,72 @@
+//! The entries of an order, taken one after another.
+
+ghost use Rattle.std.specs.Prelude.{◌≡◌, [], IfOk, IfNone, option_map};
+ghost use Rattle.spec_runs.specs.Fits.{reason_at, first_bad_place};
+ghost use Rattle.gl_world.specs.History.{with_entry};
+ghost use Rattle.gl_app.specs.BadPlace.{reason_of, bad_place_of};
+
+use gl_outside::Actor;
+use gl_world::{Next, RunName, World};
+use std::alloc::AllocError;
+
+/// Why an actor can't take the next entry.
+#[derive(Clone, Copy, Debug, PartialEq, Eq)]
+pub enum Reason {
+    /// The plan has no such writer.
+    NoWriter,
+    /// The writer has no section left.
+    NoSection,
+    /// The plan has no such proxy.
+    NoProxy,
+}
+
+/// A place of an order, counted from 0, at which the actor can't take its entry.
+#[derive(Clone, Copy, Debug, PartialEq, Eq)]
+pub struct BadPlace {
+    pub place: u64,
+    pub reason: Reason,
+}
+
+/// Takes the entries of an order in a world that has none yet. It stops at the first bad place, and answers that.
+pub fn replay<N: RunName>(
+    world: &mut World<N>,
+    order: &[Actor],
+) -> Result<Option<BadPlace>, AllocError>
+    requires { world.old.order ≡ [] }
+    ensures bad { IfOk result (λ bad. option_map bad_place_of bad ≡ first_bad_place world.old.plan order.now) }
+    ensures whole { IfOk result (λ bad. IfNone bad (world.new ≡ record { plan = world.old.plan; order = order.now })) }
+{
+    for (place, actor) in order.iter().enumerate() {
+        if let Some(reason) = take_entry(world, *actor)? {
+            return Ok(Some(BadPlace {
+                place: place as u64,
+                reason,
+            }));
+        }
+    }
+    Ok(None)
+}
+
+// Takes the actor's next entry, or says why it can't be taken.
+fn take_entry<N: RunName>(world: &mut World<N>, actor: Actor) -> Result<Option<Reason>, AllocError>
+    ensures reason { IfOk result (λ r. option_map reason_of r ≡ reason_at world.old.plan world.old.order actor) }
+    ensures entry { IfOk result (λ r. IfNone r (world.new ≡ with_entry world.old actor)) }
+{
+    match actor {
+        Actor::Writer(writer) => take_section(world, writer),
+        Actor::Proxy(_) => Ok(Some(Reason::NoProxy)),
+    }
+}
+
+fn take_section<N: RunName>(world: &mut World<N>, writer: u32) -> Result<Option<Reason>, AllocError>
+    ensures reason { IfOk result (λ r. option_map reason_of r ≡ reason_at world.old.plan world.old.order (Actor.Writer writer)) }
+    ensures entry { IfOk result (λ r. IfNone r (world.new ≡ with_entry world.old (Actor.Writer writer))) }
+{
+    if writer >= world.plan().writers() {
+        return Ok(Some(Reason::NoWriter));
+    }
+    match world.section(writer)? {
+        Next::Some(_) => Ok(None),
+        Next::None(_) => Ok(Some(Reason::NoSection)),
+    }
+}

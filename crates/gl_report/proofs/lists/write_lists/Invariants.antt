@@ -1,0 +1,11 @@
+use Rattle.std.proofs.Common.{◌≡◌, ◌++◌, drop}
+use Rattle.spec_runs.specs.Run.{run}
+use Rattle.spec_runs.specs.Shown.{table_of}
+use Rattle.spec_texts.specs.Report.{list_lines}
+use Rattle.gl_report.proofs.lists.write_lists.Given as goal
+
+-- what is written and what is left are the whole
+abbrev pub invariant-loop-list : goal.invariant-loop-list
+invariant-loop-list g l =
+    l.out ++ list_lines (drop l.list l.lists) (drop l.list (table_of (run l.world.plan l.world.order).state))
+    ≡ l.initial.out ++ list_lines l.lists (table_of (run l.world.plan l.world.order).state)

@@ -1,0 +1,55 @@
+//! What the lists of a world show.
+
+ghost use Rattle.std.specs.Prelude.{◌≡◌, ◌<◌, ◌++◌, length, OnOk};
+ghost use Rattle.spec_runs.specs.Run.{run, shown_after};
+ghost use Rattle.spec_runs.specs.Shown.{table_of};
+ghost use Rattle.spec_texts.specs.Value.{spelled_list};
+ghost use Rattle.spec_texts.specs.Report.{list_lines};
+ghost use Rattle.gl_report.specs.Lines.{list_line};
+
+use crate::value::{write_comma, write_value};
+use gl_value::{Bytes, Memory};
+use gl_world::{RunName, World};
+
+/// Adds a line for each list of a world, in number order.
+pub fn write_lists<N: RunName>(world: &World<N>, out: &mut Bytes) -> Result<(), Memory>
+    ensures { OnOk result (out.new ≡ out.old ++ list_lines world.now.plan.lists (table_of (run world.now.plan world.now.order).state)) }
+{
+    let lists = world.plan().lists();
+    for (list, decl) in lists.iter().enumerate() {
+        write_list(world, list as u32, decl.name.text().bytes(), out)?;
+    }
+    Ok(())
+}
+
+// The line of a list, which has this name.
+fn write_list<N: RunName>(
+    world: &World<N>,
+    list: u32,
+    name: &[u8],
+    out: &mut Bytes,
+) -> Result<(), Memory>
+    requires { list < length world.now.plan.lists }
+    ensures { OnOk result (out.new ≡ out.old ++ list_line name.now (shown_after world.now.plan world.now.order list)) }
+{
+    out.push_all(b"list ")?;
+    out.push_all(name)?;
+    out.push_all(b" ")?;
+    write_shown(world, list, out)?;
+    out.push_all(b"\n")?;
+    Ok(())
+}
+
+// What a list shows, as a list value.
+fn write_shown<N: RunName>(world: &World<N>, list: u32, out: &mut Bytes) -> Result<(), Memory>
+    requires { list < length world.now.plan.lists }
+    ensures { OnOk result (out.new ≡ out.old ++ spelled_list (shown_after world.now.plan world.now.order list)) }
+{
+    out.push_all(b"[")?;
+    for place in 0..world.len(list) {
+        let value = world.shown(list, place).unwrap();
+        write_comma(place, out)?;
+        write_value(value, out)?;
+    }
+    out.push_all(b"]")
+}
