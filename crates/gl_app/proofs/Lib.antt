@@ -1,3 +1,4 @@
 pub mod WordLaws
 pub mod ViewLaws
 pub mod CallLaws
+pub mod OutcomeLaws

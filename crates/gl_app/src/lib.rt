@@ -5,13 +5,17 @@
 
 mod answer;
 mod call;
+mod laws;
 mod outcome;
 mod reading;
 mod replaying;
 mod status;
+#[cfg(test)]
+mod tests;
 mod words;
 
 pub use call::plain;
 pub use gl_outside::{Sink, Source};
 pub use gl_value::Text;
+pub use laws::one_outcome;
 pub use status::Status;

@@ -14,10 +14,11 @@ pub record StandsAt (xs : List ℕ) (i x : ℕ) : Type 0 where
   pub within : i < length xs
   pub there : slice_index xs i ≡ x
 
-record StandsBefore (xs : List ℕ) (i x : ℕ) : Type 0 where
-  place : ℕ
-  before : place < i
-  stands : StandsAt xs place x
+-- x stands at a place of xs before place i
+pub record StandsBefore (xs : List ℕ) (i x : ℕ) : Type 0 where
+  pub place : ℕ
+  pub before : place < i
+  pub stands : StandsAt xs place x
 
 stands_from_Contains : (xs : List ℕ) (i x k : ℕ) → i < length xs → k < length (take i xs) → get_or (take i xs) k x ≡ x → StandsBefore xs i x
 stands_from_Contains xs i x k l m e =
@@ -27,7 +28,8 @@ stands_from_Contains xs i x k l m e =
     let zero_read : get_or xs k x ≡ slice_index xs k = get_or_default xs k x 0 (omega arith) in
     record { place = k; before = lt; stands = record { within = omega arith; there = sym zero_read ∙ (sym read ∙ e) } }
 
-dependency_before : (n : ℕ) (edges : List (ℕ × ℕ)) (xs : List ℕ) → IsFront n edges xs → (i x y : ℕ) → StandsAt xs i x → DependsOn edges x y → StandsBefore xs i y
+-- what stands at a place depends only on what stands before it
+pub dependency_before : (n : ℕ) (edges : List (ℕ × ℕ)) (xs : List ℕ) → IsFront n edges xs → (i x y : ℕ) → StandsAt xs i x → DependsOn edges x y → StandsBefore xs i y
 dependency_before n edges xs f i x y s d =
     let c : Contains (take i xs) y = (f i s.within).ready.free y (subst (λ (z : ℕ). DependsOn edges z y) (sym s.there) d) in
     stands_from_Contains xs i y (c.0) s.within c.1 c.2
@@ -52,12 +54,17 @@ pub walk_below : (n : ℕ) (edges : List (ℕ × ℕ)) (x y : ℕ) (ws : List �
 walk_below n edges x y [] ends w = (All-contains (λ e. (e.0 < n) × (e.1 < n)) edges (x, y) ends w).0
 walk_below n edges x y (z ∷ zs) ends w = (All-contains (λ e. (e.0 < n) × (e.1 < n)) edges (x, z) ends w.0).0
 
+-- each of the n numbers is in the order, which has none twice (`front_once`) and no others (`front_below`)
+pub Contains-order : (n : ℕ) (edges : List (ℕ × ℕ)) (xs : List ℕ) → IsOrder n edges xs → (j : ℕ) → j < n → Contains xs j
+Contains-order n edges xs o j l =
+    Contains-distinct n xs o.whole (front_below n edges xs o.front) (front_once n edges xs o.front) j l
+
 pub acyclic_from_IsOrder : (n : ℕ) (edges : List (ℕ × ℕ)) (xs : List ℕ) → AreWithin n edges → IsOrder n edges xs → ¬ HasCycle edges
 acyclic_from_IsOrder n edges xs ends o h = cycle_free h.0 h.1
   where
     cycle_free : (cycle : List ℕ) → IsCycle edges cycle → ⊥
     cycle_free [] c = c
     cycle_free (x ∷ ws) c =
-        let p : Contains xs x = Contains-distinct n xs o.whole (front_below n edges xs o.front) (front_once n edges xs o.front) x (walk_below n edges x x ws ends c) in
+        let p : Contains xs x = Contains-order n edges xs o x (walk_below n edges x x ws ends c) in
         let read : get_or xs (p.0) x ≡ slice_index xs (p.0) = get_or_default xs (p.0) x 0 p.1 in
         no_descent n edges xs o.front (suc (p.0)) (p.0) x ws (omega arith) (record { within = p.1; there = sym read ∙ p.2 }) c

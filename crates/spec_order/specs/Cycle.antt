@@ -1,5 +1,6 @@
 -- Cycles of dependencies, and which of them is the first.
 use Rattle.std.specs.Prelude.{◌≡◌, ℕ, ◌<◌, ◌≤◌, ◌⊎◌, List, [], ◌∷◌, length, slice_index, All, Contains, ⊤}
+use Rattle.std.proofs.Common.{lit<, refl}
 use Rattle.spec_order.specs.Edges.{DependsOn}
 
 -- from a through xs to b, where each depends on the next
@@ -12,6 +13,11 @@ abbrev pub IsCycle : List (ℕ × ℕ) → List ℕ → Type 0
 IsCycle edges [] = ⊥
 IsCycle edges (x ∷ xs) = IsWalk edges x xs x
 
+-- each of two depends on the other
+two : IsCycle ((0, 1) ∷ (1, 0) ∷ []) (0 ∷ 1 ∷ [])
+two = ((0, lit< tt, refl), (1, lit< tt, refl))
+
+-- some list is a cycle
 abbrev pub HasCycle : List (ℕ × ℕ) → Type 0
 HasCycle edges = (cycle : List ℕ) × IsCycle edges cycle
 
