@@ -1,0 +1,10 @@
+pub mod Trees
+pub mod Links
+pub mod Rotations
+pub mod Edits
+pub mod Removals
+pub mod Owns
+pub mod Finds
+pub mod Vacancies
+pub mod Seen
+pub mod Weights

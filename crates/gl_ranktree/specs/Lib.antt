@@ -1,0 +1,6 @@
+pub mod Summary
+pub mod Tree
+pub mod Nodes
+pub mod Edits
+pub mod Finds
+pub mod Ranked

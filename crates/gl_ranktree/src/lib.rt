@@ -1,0 +1,18 @@
+//! A balanced tree whose nodes stand in one vector and are named by their slots in it.
+//!
+//! It is a list in which the place of an entry, the entry at a place and the sum of the entries
+//! before it are found in logarithmic time, and in which an entry keeps its slot.
+#![tactic(auto)]
+
+mod edit;
+mod find;
+mod join;
+mod node;
+mod slots;
+mod summary;
+#[cfg(test)]
+mod tests;
+mod tree;
+
+pub use summary::{Measure, Summary};
+pub use tree::RankTree;
