@@ -7,4 +7,4 @@ pub mod Owns
 pub mod Finds
 pub mod Vacancies
 pub mod Seen
-pub mod Weights
+pub mod Seeking

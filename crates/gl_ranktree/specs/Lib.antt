@@ -4,3 +4,4 @@ pub mod Nodes
 pub mod Edits
 pub mod Finds
 pub mod Ranked
+pub mod Sought

@@ -1,8 +1,8 @@
 -- What a tree in a vector keeps, with its vacant slots, and how a client sees it.
-use Rattle.std.specs.Prelude.{◌≡◌, ◌≢◌, ℕ, zero, suc, ◌+◌, ◌<◌, ◌≤◌, max, List, [], ◌∷◌, ◌++◌, length, map, take, cond, nat_lt, insert, remove, slice_get, Some, refl}
+use Rattle.std.specs.Prelude.{◌≡◌, ◌≢◌, ℕ, zero, suc, ◌+◌, ◌<◌, ◌≤◌, max, List, [], ◌∷◌, ◌++◌, length, map, cond, nat_lt, insert, remove, refl}
 use Rattle.std.specs.Coded.{Coded, code_by, coded×, coded_ℕ, coded_list}
 use Rattle.gl_ranktree.specs.Summary.{Sums}
-use Rattle.gl_ranktree.specs.Tree.{Tree, absent, tree_size, inorder, times, hit, with_own, list_sum, SplitsAt}
+use Rattle.gl_ranktree.specs.Tree.{Tree, absent, tree_size, inorder, times, hit, with_own, SplitsAt}
 use Rattle.gl_ranktree.specs.Nodes.{node_at, IsUnder, Becomes}
 use Rattle.gl_ranktree.specs.Edits.{Stands}
 use Rattle.gl_ranktree.specs.declared.node.Node.{Node}
@@ -75,7 +75,7 @@ module _ {S : Type 0} (m : Sums S) where
   pub record CanPutIn (nodes : List (Node S)) (top vacant place capacity : ℕ) (tree : Tree S) (free : List ℕ) : Type 0 where
     pub ranks : Ranks nodes top vacant tree free
     pub in_range : place ≤ tree_size tree
-    pub few : tree_size tree + 1 < absent
+    pub few : tree_size tree < absent
     pub spare : tree_size tree < capacity
 
   pub record SomeCanPutIn (nodes : List (Node S)) (top vacant place capacity : ℕ) : Type 0 where
@@ -121,11 +121,3 @@ module _ {S : Type 0} where
   -- the slots of the entries
   abbrev pub slots_of : List (ℕ × S) → List ℕ
   slots_of es = map (λ e. e.0) es
-
-  -- k comes into the entry at a place, with so much of its weight before it
-  pub record Reaches (m : Sums S) (weight : S → ℕ) (es : List (ℕ × S)) (k place rest : ℕ) : Type 0 where
-    pub slot : ℕ
-    pub own : S
-    pub at : slice_get es place ≡ Some (slot, own)
-    pub before : weight (list_sum m (take place es)) + rest ≡ k
-    pub within : rest < weight own

@@ -1,5 +1,5 @@
 -- How summaries are added up.
-use Rattle.std.specs.Prelude.{◌≡◌, ℕ, ◌+◌, Bool, IsTrue}
+use Rattle.std.specs.Prelude.{◌≡◌, Bool, IsTrue}
 
 -- the summary of nothing, how two are added, and which of them the type can hold
 pub record Sums (S : Type 0) : Type 0 where
@@ -14,8 +14,3 @@ pub record AreSums {S : Type 0} (m : Sums S) : Type 0 where
   pub assoc : (x y z : S) → m.plus (m.plus x y) z ≡ m.plus x (m.plus y z)
   pub fits_left : (x y : S) → IsTrue (m.fits (m.plus x y)) → IsTrue (m.fits x)
   pub fits_right : (x y : S) → IsTrue (m.fits (m.plus x y)) → IsTrue (m.fits y)
-
--- a weight that a sum has as its parts have it together
-pub record IsMeasure {S : Type 0} (m : Sums S) (weight : S → ℕ) : Type 0 where
-  pub zero : weight m.zero ≡ 0
-  pub plus : (x y : S) → weight (m.plus x y) ≡ weight x + weight y

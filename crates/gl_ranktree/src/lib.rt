@@ -7,12 +7,16 @@
 mod edit;
 mod find;
 mod join;
+mod measure;
 mod node;
+mod seek;
 mod slots;
 mod summary;
 #[cfg(test)]
 mod tests;
 mod tree;
 
-pub use summary::{Measure, Summary};
+pub use measure::Measure;
+pub use seek::Sought;
+pub use summary::Summary;
 pub use tree::RankTree;

@@ -1,5 +1,5 @@
-ghost use Rattle.std.specs.Prelude.{◌≡◌, ℕ, IsTrue};
-ghost use Rattle.gl_ranktree.specs.Summary.{Sums, AreSums, IsMeasure};
+ghost use Rattle.std.specs.Prelude.{◌≡◌, IsTrue};
+ghost use Rattle.gl_ranktree.specs.Summary.{Sums, AreSums};
 
 /// What the entries of a tree are added up to, as a count of something in each of them.
 pub trait Summary: Copy {
@@ -16,19 +16,6 @@ pub trait Summary: Copy {
 
     // What each impl proves.
     ghost laws: { AreSums sums };
-}
-
-/// A weight that is read off a summary, as the number of things of one kind in its entries.
-pub trait Measure<S: Summary> {
-    // The weight, by a measure, of what was summed up.
-    ghost weight: { Self → S → ℕ };
-
-    /// The weight of the entries that were summed up.
-    fn weigh(&self, summary: S) -> usize
-        ensures { result ≡ weight self.now summary };
-
-    // What each impl proves.
-    ghost additive: { (measure : Self) → IsMeasure S.sums (weight measure) };
 }
 
 // The summary of a tree of which only the places matter.

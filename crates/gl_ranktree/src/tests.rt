@@ -1,6 +1,6 @@
 ghost use Rattle.std.specs.Prelude.{◌≡◌, []};
 
-use crate::{Measure, RankTree, Summary};
+use crate::{Measure, RankTree, Sought, Summary};
 use std::process::Abort;
 use std::test::Fail;
 
@@ -41,17 +41,20 @@ impl Summary for Points {
 }
 
 // All the points.
+#[derive(Clone, Copy)]
 struct All;
 
 impl Measure<Points> for All {
     ghost use Rattle.std.specs.Prelude.{refl};
 
-    ghost weight = { λ _ points. points.total };
+    ghost measured = { λ _ points. points.total };
 
-    ghost additive = { λ _. record { zero = refl; plus = λ _ _. refl } };
+    ghost empty = { λ _. refl };
 
-    fn weigh(&self, summary: Points) -> usize {
-        summary.total as usize
+    ghost additive = { λ _ _ _. refl };
+
+    fn of(self, sum: Points) -> usize {
+        sum.total as usize
     }
 }
 
@@ -87,18 +90,22 @@ fn entries_keep_their_slots(rt: HostRuntime) -> Result<(), Fail> {
 }
 
 // What a tree of one entry is added up to, and where its third point stands.
-fn one_entry(tree: &mut RankTree<Points>) -> Result<(Points, Points, (usize, usize)), Fail>
+fn one_entry(tree: &mut RankTree<Points>) -> Result<(Points, Sought<Points>), Fail>
     requires { tree.old.entries ≡ [] }
 {
     let point = Points { total: 5 };
     tree.insert_at(0, point)?;
-    Ok((tree.sum(), tree.sum_to(1), tree.seek(&All, 3)))
+    Ok((tree.sum(), tree.seek(All, 3)))
 }
 
 #[test]
 fn entries_are_added_up(rt: HostRuntime) -> Result<(), Fail> {
     let mut tree = RankTree::new(rt.alloc());
     let five = Points { total: 5 };
-    assert_eq!(rt; one_entry(&mut tree)?, (five, five, (0, 3)));
+    let (sum, sought) = one_entry(&mut tree)?;
+    assert_eq!(rt; sum, five);
+    assert_eq!(rt; sought.place, 0);
+    assert_eq!(rt; sought.before, Points { total: 0 });
+    assert_eq!(rt; sought.own, Some(five));
     Ok(())
 }

@@ -1,11 +1,14 @@
-ghost use Rattle.std.specs.Prelude.{◌≡◌, ◌+◌, ◌-◌, ◌*◌, ◌^◌, ◌<◌, ◌≤◌, ℕ, [], max, length, insert, remove, Contains, IfOk, OnOk, OnErr, Some, slice_get, take, IsTrue};
-ghost use Rattle.gl_ranktree.specs.Ranked.{slots_of, Reaches};
-ghost use Rattle.gl_ranktree.specs.Tree.{with_own, list_sum};
+ghost use Rattle.std.specs.Prelude.{◌≡◌, ◌+◌, ◌-◌, ◌*◌, ◌^◌, ◌<◌, ◌≤◌, ℕ, [], max, length, insert, remove, Contains, IfOk, OnOk, OnErr, Some, IsTrue, slice_get};
+ghost use Rattle.gl_ranktree.specs.Ranked.{slots_of};
+ghost use Rattle.gl_ranktree.specs.Sought.{IsSought};
+ghost use Rattle.gl_ranktree.specs.Tree.{list_sum, with_own};
 
-use crate::find::{places_before, seek, slot_at, sum_to};
+use crate::find::{places_before, slot_at};
+use crate::measure::Measure;
 use crate::node::{ABSENT, Node, read};
+use crate::seek::{Sought, seek};
 use crate::slots::{put_in, set_in, take_out};
-use crate::summary::{Measure, Summary};
+use crate::summary::Summary;
 use std::alloc::{AllocError, Global};
 use std::marker::Model;
 
@@ -95,6 +98,22 @@ impl<S: Summary> RankTree<S> {
         places_before(nodes, slot) + below
     }
 
+    /// The sum of all entries, in constant time. It is right where the type can hold it.
+    pub fn sum(&self) -> S
+        ensures { IsTrue (S.sums.fits (list_sum S.sums self.now.entries))
+            → result ≡ list_sum S.sums self.now.entries }
+    {
+        read(self.nodes.as_slice(), self.root).sum
+    }
+
+    /// The first entry with which the measure of the entries so far passes `k`, in one descent.
+    pub fn seek<M: Measure<S>>(&self, by: M, k: usize) -> Sought<S>
+        requires { IsTrue (S.sums.fits (list_sum S.sums self.now.entries)) }
+        ensures { IsSought S.sums (M.measured by) self.now.entries k result.place result.before result.own }
+    {
+        seek(self.nodes.as_slice(), self.root, by, k)
+    }
+
     /// Makes room for `additional` more entries, so that as many inserts need no memory.
     pub fn reserve(&mut self, additional: usize) -> Result<(), AllocError>
         ensures spare { OnOk result (length self.new.entries + additional ≤ self.new.room) }
@@ -113,7 +132,7 @@ impl<S: Summary> RankTree<S> {
     /// Puts an entry at a place in room that was reserved, and returns its slot.
     pub fn insert_reserved(&mut self, place: usize, own: S) -> u32
         requires in_range { place ≤ length self.old.entries }
-        requires few { length self.old.entries + 1 < 2 ^ 32 - 1 }
+        requires few { length self.old.entries + 1 < 2 ^ 32 }
         requires spare { length self.old.entries < self.old.room }
         ensures entries { self.new.entries ≡ insert self.old.entries place (result, own) }
         ensures fresh { ¬ Contains (slots_of self.old.entries) result }
@@ -131,7 +150,7 @@ impl<S: Summary> RankTree<S> {
     /// Puts an entry at a place and returns its slot. It takes memory where there is no room.
     pub fn insert_at(&mut self, place: usize, own: S) -> Result<u32, AllocError>
         requires in_range { place ≤ length self.old.entries }
-        requires few { length self.old.entries + 1 < 2 ^ 32 - 1 }
+        requires few { length self.old.entries + 1 < 2 ^ 32 }
         ensures entries { IfOk result
             (λ slot. self.new.entries ≡ insert self.old.entries place (slot, own)) }
         ensures fresh { IfOk result (λ slot. ¬ Contains (slots_of self.old.entries) slot) }
@@ -172,32 +191,5 @@ impl<S: Summary> RankTree<S> {
         ensures room { self.new.room ≡ self.old.room }
     {
         set_in(self.nodes.as_mut_slice(), self.root, place, own);
-    }
-
-    /// The summaries of all entries, added up.
-    pub fn sum(&self) -> S
-        requires { IsTrue (S.sums.fits (list_sum S.sums self.now.entries)) }
-        ensures { result ≡ list_sum S.sums self.now.entries }
-    {
-        read(self.nodes.as_slice(), self.root).sum
-    }
-
-    /// The summaries of the entries before a place, added up.
-    pub fn sum_to(&self, place: usize) -> S
-        requires in_range { place ≤ length self.now.entries }
-        requires fits { IsTrue (S.sums.fits (list_sum S.sums self.now.entries)) }
-        ensures { result ≡ list_sum S.sums (take place self.now.entries) }
-    {
-        sum_to(self.nodes.as_slice(), self.root, place)
-    }
-
-    /// The place of the entry with which the weight of the entries from the left passes `k`, and
-    /// how much of `k` is left of that entry's own weight.
-    pub fn seek<M: Measure<S>>(&self, measure: &M, k: usize) -> (usize, usize)
-        requires fits { IsTrue (S.sums.fits (list_sum S.sums self.now.entries)) }
-        requires more { k < M.weight measure.now (list_sum S.sums self.now.entries) }
-        ensures { Reaches S.sums (M.weight measure.now) self.now.entries k result.0 result.1 }
-    {
-        seek(self.nodes.as_slice(), self.root, measure, k)
     }
 }

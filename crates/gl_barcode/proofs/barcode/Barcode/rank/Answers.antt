@@ -1,0 +1,13 @@
+use Rattle.std.proofs.Common.{◌≡◌, ◌<◌, ◌≤◌, ◌+◌, length, take, insert, remove, set, refl, sym, ap, ◌∙◌, arith, subst, rules}
+use Rattle.gl_fourcolour.specs.Colours.{Colours, inserted, painted, removed, AllBelow}
+use Rattle.gl_fourcolour.specs.Colours as colours
+use Rattle.gl_barcode.specs.Bars.{count_shown, spare}
+use Rattle.gl_barcode.specs.Held.{shown_of, colour_of}
+use Rattle.gl_barcode.proofs.Holding.{held_is, count-taken}
+use Rattle.gl_barcode.proofs.barcode.Barcode.rank.Goals as goal
+
+pub returns : goal.returns
+returns c =
+    let held = c.self.inside.runs in
+    let h = held_is held c.args.self.now c.self.invariant c.self.view_is in
+    c.rank.ensures ∙ (count-taken c.args.place held.colours c.self.invariant ∙ ap (λ bs. count_shown (take c.args.place bs)) h.shown)

@@ -1,0 +1,21 @@
+use Rattle.std.proofs.Common.{◌≡◌, ◌<◌, ◌≤◌, ◌+◌, length, take, insert, remove, set, refl, sym, ap, ◌∙◌, arith, subst, rules}
+use Rattle.gl_fourcolour.specs.Colours.{Colours, inserted, painted, removed, AllBelow}
+use Rattle.gl_fourcolour.specs.Colours as colours
+use Rattle.gl_barcode.specs.Bars.{count_shown, spare}
+use Rattle.gl_barcode.specs.Held.{shown_of, colour_of}
+use Rattle.gl_barcode.proofs.Holding.{held_is, kth_found}
+use Rattle.gl_barcode.proofs.barcode.Barcode.select.Goals as goal
+
+pub returns-clause-some : goal.returns-clause-some
+returns-clause-some c =
+    let held = c.self.inside.runs in
+    let h = held_is held c.args.self.now c.self.invariant c.self.view_is in (
+      λ some. omega (arith, c.select.ensures.some.0 some, h.count),
+      λ more. c.select.ensures.some.1 (omega (arith, more, h.count)),
+    )
+
+pub returns-clause-place : goal.returns-clause-place
+returns-clause-place c =
+    let held = c.self.inside.runs in
+    let h = held_is held c.args.self.now c.self.invariant c.self.view_is in
+    kth_found c.args.k held.colours c.args.self.now.shown c.select.result c.self.invariant h.shown c.select.ensures.place
