@@ -1,0 +1,6 @@
+use Rattle.gl_delta.specs.Pieces.{pieces}
+use Rattle.gl_delta.proofs.KeptLemmas.{kept_identity}
+use Rattle.gl_delta.proofs.delta.Delta.identity.Goals as goal
+
+pub invariant_of-result : goal.invariant_of-result
+invariant_of-result c = kept_identity (pieces c.kept.result) c.args.len c.kept.ensures c.requires

@@ -1,0 +1,13 @@
+use Rattle.std.proofs.Common.{◌-◌, ◌≤◌, ℕ, length}
+use Rattle.gl_delta.specs.Pieces.{pieces, room}
+use Rattle.gl_delta.proofs.EditLemmas.{IsMoved}
+use Rattle.gl_delta.proofs.edits.settle.Given as goal
+
+abbrev pub invariant-moves : goal.invariant-moves
+invariant-moves l = record {
+  moved : IsMoved (pieces l.initial.store) (pieces l.store) l.to l.from;
+  room : room l.initial.store ≤ room l.store;
+}
+
+abbrev pub decreases-moves : goal.decreases-moves
+decreases-moves l = length (pieces l.store) - l.from

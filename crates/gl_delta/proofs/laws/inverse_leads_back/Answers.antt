@@ -1,0 +1,5 @@
+use Rattle.spec_lists.proofs.Leading.{inverse_leads_back as law}
+use Rattle.gl_delta.proofs.laws.inverse_leads_back.Goals as goal
+
+pub returns : goal.returns
+returns c = law

@@ -1,0 +1,5 @@
+use Rattle.spec_lists.proofs.Pairing.{sides_tell_pairs as law}
+use Rattle.gl_delta.proofs.laws.sides_tell_pairs.Goals as goal
+
+pub returns : goal.returns
+returns c = law

@@ -1,0 +1,5 @@
+pub mod Marks
+pub mod Told
+pub mod Pieces
+pub mod Cells
+pub mod Old

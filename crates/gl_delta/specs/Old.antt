@@ -1,0 +1,11 @@
+-- What became of an old element.
+use Rattle.std.specs.Prelude.{◌≡◌, ◌⊎◌, ℕ, List, Some, slice_get}
+use Rattle.spec_lists.specs.Sides.{Item, plain, changed, lone}
+use Rattle.gl_delta.specs.declared.cell.Old.{Old}
+use Rattle.gl_delta.specs.declared.cell.Old.TheVariants.{Kept, Value}
+
+-- The element at a place of the old side has an equal partner at that new place; or it has another partner or none, and
+-- this is its value.
+abbrev pub IsOldAt : List Item → ℕ → Old → Type 0
+IsOldAt items place (Kept j) = slice_get items place ≡ Some (plain j)
+IsOldAt items place (Value v) = (slice_get items place ≡ Some (lone v.now)) ⊎ ((j : ℕ) × (slice_get items place ≡ Some (changed j v.now)))

@@ -1,0 +1,69 @@
+-- How long the lists of compositions are.
+use Rattle.std.proofs.Common.{◌≡◌, ◌∙◌, ℕ, zero, suc, ◌+◌, ◌-◌, ◌<◌, ◌≤◌, List, ◌∷◌, map, length, refl, ap, arith}
+use Rattle.spec_value.specs.Tree.{Tree}
+use Rattle.spec_lists.specs.Piece.{Piece, updated, deleted, inserted, turned, identity, old_len, new_len}
+use Rattle.spec_lists.specs.Delta.{composed, inverse, one_insert, one_set, one_remove}
+use Rattle.spec_lists.proofs.Normal.{old_len-normal, new_len-normal, turned-turned}
+use Rattle.spec_lists.proofs.Merge.{Merge, merge_of, composed_merge, Merge-turned, done, gone, come, keep_keep, keep_set, keep_drop, set_keep, set_set, set_drop, new_keep, new_set, new_drop}
+use Rattle.spec_lists.proofs.Composition.{inverse_is}
+use Rattle.spec_lists.proofs.Changing.{old_len-append, new_len-append}
+
+pub old_len-merge : {p q m : List Piece} → Merge p q m → old_len m ≡ old_len p
+old_len-merge done = refl
+old_len-merge (gone h) = ap suc (old_len-merge h)
+old_len-merge (come h) = old_len-merge h
+old_len-merge (keep_keep h) = ap suc (old_len-merge h)
+old_len-merge (keep_set h) = ap suc (old_len-merge h)
+old_len-merge (keep_drop h) = ap suc (old_len-merge h)
+old_len-merge (set_keep h) = ap suc (old_len-merge h)
+old_len-merge (set_set h) = ap suc (old_len-merge h)
+old_len-merge (set_drop h) = ap suc (old_len-merge h)
+old_len-merge (new_keep h) = old_len-merge h
+old_len-merge (new_set h) = old_len-merge h
+old_len-merge (new_drop h) = old_len-merge h
+
+pub new_len-merge : {p q m : List Piece} → Merge p q m → new_len m ≡ new_len q
+new_len-merge h = old_len-merge (Merge-turned h)
+
+-- a composition leads from the first list to the last
+pub old_len-composed : (p q : List Piece) → new_len p ≡ old_len q → old_len (composed p q) ≡ old_len p
+old_len-composed p q e =
+    let h : (m : List Piece) × Merge p q m = merge_of (length p + length q) p q (omega arith) e in
+    ap old_len (composed_merge h.1) ∙ (old_len-normal h.0 ∙ old_len-merge h.1)
+
+pub new_len-composed : (p q : List Piece) → new_len p ≡ old_len q → new_len (composed p q) ≡ new_len q
+new_len-composed p q e =
+    let h : (m : List Piece) × Merge p q m = merge_of (length p + length q) p q (omega arith) e in
+    ap new_len (composed_merge h.1) ∙ (new_len-normal h.0 ∙ new_len-merge h.1)
+
+pub old_len-inverse : (p : List Piece) → old_len (inverse p) ≡ new_len p
+old_len-inverse p = ap old_len (inverse_is p) ∙ old_len-normal (map turned p)
+
+pub new_len-inverse : (p : List Piece) → new_len (inverse p) ≡ old_len p
+new_len-inverse p = ap new_len (inverse_is p) ∙ (new_len-normal (map turned p) ∙ ap old_len (turned-turned p))
+
+pub old_len-identity : (n : ℕ) → old_len (identity n) ≡ n
+old_len-identity zero = refl
+old_len-identity (suc n) = ap suc (old_len-identity n)
+
+pub new_len-identity : (n : ℕ) → new_len (identity n) ≡ n
+new_len-identity zero = refl
+new_len-identity (suc n) = ap suc (new_len-identity n)
+
+pub old_len-one_insert : (n at : ℕ) (v : Tree) → at ≤ n → old_len (one_insert n at v) ≡ n
+old_len-one_insert n at v h = old_len-append (identity at) (inserted v ∷ identity (n - at)) ∙ omega (arith, old_len-identity at, old_len-identity (n - at))
+
+pub new_len-one_insert : (n at : ℕ) (v : Tree) → at ≤ n → new_len (one_insert n at v) ≡ n + 1
+new_len-one_insert n at v h = new_len-append (identity at) (inserted v ∷ identity (n - at)) ∙ omega (arith, new_len-identity at, new_len-identity (n - at))
+
+pub old_len-one_set : (n at : ℕ) (v w : Tree) → at < n → old_len (one_set n at v w) ≡ n
+old_len-one_set n at v w h = old_len-append (identity at) (updated v w ∷ identity (n - suc at)) ∙ omega (arith, old_len-identity at, old_len-identity (n - suc at))
+
+pub new_len-one_set : (n at : ℕ) (v w : Tree) → at < n → new_len (one_set n at v w) ≡ n
+new_len-one_set n at v w h = new_len-append (identity at) (updated v w ∷ identity (n - suc at)) ∙ omega (arith, new_len-identity at, new_len-identity (n - suc at))
+
+pub old_len-one_remove : (n at : ℕ) (v : Tree) → at < n → old_len (one_remove n at v) ≡ n
+old_len-one_remove n at v h = old_len-append (identity at) (deleted v ∷ identity (n - suc at)) ∙ omega (arith, old_len-identity at, old_len-identity (n - suc at))
+
+pub new_len-one_remove : (n at : ℕ) (v : Tree) → at < n → new_len (one_remove n at v) + 1 ≡ n
+new_len-one_remove n at v h = omega (arith, new_len-append (identity at) (deleted v ∷ identity (n - suc at)), new_len-identity at, new_len-identity (n - suc at))

@@ -1,0 +1,9 @@
+pub mod Piece
+pub mod Sides
+pub mod Pairs
+pub mod Delta
+pub mod Leads
+pub mod Cells
+pub mod Changes
+pub mod Laws
+pub mod Rows
