@@ -1,0 +1,4 @@
+pub mod Grammar
+pub mod Language
+pub mod Reader
+pub mod Rows

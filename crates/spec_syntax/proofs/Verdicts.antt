@@ -1,0 +1,50 @@
+-- What the reader of values says of all the bytes.
+use Rattle.std.proofs.Common.{◌≡◌, ℕ, ◌+◌, ◌<◌, ◌≤◌, List, [], ◌∷◌, ◌++◌, length, refl, ap, subst, arith}
+use Rattle.spec_value.specs.Tree.{Tree}
+use Rattle.spec_grammar.specs.Language.{Spell, Leaves}
+use Rattle.spec_grammar.specs.Reader.{Step, found, stopped, whole, first_is}
+use Rattle.spec_grammar.proofs.Missed.{missed_most}
+use Rattle.spec_grammar.proofs.Reading.{no_more, Finds, Stops, IsStep}
+use Rattle.spec_grammar.proofs.Sequences.{rest_le}
+use Rattle.spec_grammar.proofs.Repetitions.{Unbegun}
+use Rattle.spec_grammar.proofs.Wholes.{IsVerdict, verdict_of}
+use Rattle.spec_syntax.specs.Number.{is_digit}
+use Rattle.spec_syntax.specs.Value.{any_value}
+use Rattle.spec_syntax.specs.ValueReader.{read_nested}
+use Rattle.spec_syntax.proofs.Values.{any_reads}
+
+nothing_behind : Unbegun is_digit no_more
+nothing_behind v e = ap (first_is is_digit) e
+
+value_step : (bs : List ℕ) → IsStep any_value no_more bs (read_nested (length bs) bs)
+value_step bs = any_reads (length bs) (length bs) (omega arith) no_more ([], refl) nothing_behind bs (omega arith)
+
+-- the verdict on all the bytes
+pub value_verdict : (bs : List ℕ) → IsVerdict any_value bs (whole (read_nested (length bs) bs))
+value_verdict bs = verdict_of any_value bs (read_nested (length bs) bs) (value_step bs)
+
+verdict_at : (bs : List ℕ) (st : Step Tree) → read_nested (length bs) bs ≡ st → IsVerdict any_value bs (whole st)
+verdict_at bs st h = subst (λ s. IsVerdict any_value bs (whole s)) h (value_verdict bs)
+
+pub spelled_all : (bs : List ℕ) (t : Tree) (rest : List ℕ) → read_nested (length bs) bs ≡ found t rest → length rest ≡ 0 → Spell any_value bs t
+spelled_all bs t [] h e = verdict_at bs (found t []) h
+spelled_all bs t (c ∷ rest) h e = absurd (omega arith)
+
+pub spelled_front : (bs : List ℕ) (t : Tree) (rest : List ℕ) (column : ℕ) → read_nested (length bs) bs ≡ found t rest → 0 < length rest → column + length rest ≡ length bs + 1 → Leaves any_value bs column
+spelled_front bs t [] column h l e = absurd (omega arith)
+spelled_front bs t (c ∷ rest) column h l e = let v = verdict_at bs (found t (c ∷ rest)) h in record { none = v.0; at = v.1 column (omega arith) }
+
+pub spelled_none : (bs : List ℕ) (left column : ℕ) → read_nested (length bs) bs ≡ stopped left → column + left ≡ length bs + 1 → Leaves any_value bs column
+spelled_none bs left column h e = let v = verdict_at bs (stopped left) h in record { none = v.0; at = v.1 column e }
+
+left_of : (bs : List ℕ) (left : ℕ) → Stops any_value no_more bs left → left ≤ length bs
+left_of bs left s = omega (arith, s.near, missed_most (s.text ++ s.tail) bs)
+
+pub left_le : (bs : List ℕ) (left : ℕ) → read_nested (length bs) bs ≡ stopped left → left ≤ length bs
+left_le bs left h = left_of bs left (subst (λ st. IsStep any_value no_more bs st) h (value_step bs))
+
+front_of : (bs : List ℕ) (t : Tree) (rest : List ℕ) → Finds any_value no_more bs t rest → length rest ≤ length bs
+front_of bs t rest f = rest_le bs f.front rest f.are
+
+pub rest_of : (bs : List ℕ) (t : Tree) (rest : List ℕ) → read_nested (length bs) bs ≡ found t rest → length rest ≤ length bs
+rest_of bs t rest h = front_of bs t rest (subst (λ st. IsStep any_value no_more bs st) h (value_step bs))

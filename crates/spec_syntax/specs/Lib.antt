@@ -1,0 +1,5 @@
+pub mod Number
+pub mod Text
+pub mod Value
+pub mod ValueReader
+pub mod Rows
