@@ -1,0 +1,5 @@
+pub mod Chosen
+pub mod Filter
+pub mod Function
+pub mod Range
+pub mod Rows
