@@ -1,5 +1,5 @@
 -- A filter shows the elements of its input that its matcher accepts, in their order.
-use Rattle.std.specs.Prelude.{ℕ, Bool, List, filter, length}
+use Rattle.std.specs.Prelude.{Bool, List, filter, length}
 use Rattle.spec_value.specs.Tree.{Tree}
 use Rattle.spec_lists.specs.Piece.{Piece, identity}
 use Rattle.spec_views.specs.Chosen.{Choice, follow_chosen}

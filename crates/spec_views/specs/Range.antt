@@ -1,5 +1,5 @@
 -- A range shows a slice of its input, whose ends count from the head or from the tail.
-use Rattle.std.specs.Prelude.{ℕ, ◌+◌, ◌-◌, ◌&&◌, Bool, List, take, drop, length, nat_lt, nat_le, min}
+use Rattle.std.specs.Prelude.{ℕ, ◌-◌, ◌&&◌, List, take, drop, length, nat_lt, nat_le, min}
 use Rattle.spec_value.specs.Tree.{Tree}
 use Rattle.spec_lists.specs.Piece.{Piece, identity, new_len}
 use Rattle.spec_lang.specs.declared.Bounds.{Bounds}

@@ -1,7 +1,7 @@
 -- Small cases of the definitions, worked out.
-use Rattle.std.specs.Prelude.{◌≡◌, pos, int_lt, Bool, true, false, List, [], ◌∷◌, refl}
+use Rattle.std.specs.Prelude.{◌≡◌, pos, int_lt, Bool, false, List, [], ◌∷◌, refl}
 use Rattle.spec_value.specs.Tree.{Tree, num, text, items}
-use Rattle.spec_lists.specs.Piece.{Piece, kept, updated, deleted, inserted}
+use Rattle.spec_lists.specs.Piece.{kept, updated, deleted, inserted}
 use Rattle.spec_lists.specs.Delta.{one_insert}
 use Rattle.spec_lists.specs.Changes.{changes, delete, insertion}
 use Rattle.spec_lang.specs.declared.Bounds.TheVariants.{Head, Tail, Middle}
