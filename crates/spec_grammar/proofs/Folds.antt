@@ -48,3 +48,15 @@ folded_is f b (suc n) p r bs = elim (cases_Bool (first_is p bs)) as (λ _. folde
       ap (λ x. cond x (on (r bs) (λ a rest. folded f (f b a) n p r rest)) (found b bs)) e
       ∙ ap (λ x. made (fold f b) (cond x (made_of (λ ab. ab.0 ∷ ab.1) (seq r (repeated n p r)) bs) (found [] bs))) (sym e)
 ]
+
+-- one thing more, by what is made of it
+on_made : {A B : Type 0} (f : B → A → B) (b c : B) (n : ℕ) (p : ℕ → Bool) (r : Reader A) (st : Step A) (rest : List ℕ) → made (f b) st ≡ found c rest → on st (λ a left. folded f (f b a) n p r left) ≡ folded f c n p r rest
+on_made f b c n p r (found a left) rest h = cc
+on_made f b c n p r (stopped left) rest h = cc
+
+pub folded_made : {A B : Type 0} (f : B → A → B) (b c : B) (n : ℕ) (p : ℕ → Bool) (r : Reader A) (bs rest : List ℕ) → 0 < n → first_is p bs ≡ true → made (f b) (r bs) ≡ found c rest → folded f b n p r bs ≡ folded f c (n - 1) p r rest
+folded_made f b c zero p r bs rest h e g = absurd (omega arith)
+folded_made f b c (suc n) p r bs rest h e g =
+    ap (λ x. cond x (on (r bs) (λ a left. folded f (f b a) n p r left)) (found b bs)) e
+    ∙ on_made f b c n p r (r bs) rest g
+    ∙ ap (λ m. folded f c m p r rest) (let k : n ≡ suc n - 1 = omega arith in k)

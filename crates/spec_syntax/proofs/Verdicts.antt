@@ -1,17 +1,19 @@
 -- What the reader of values says of all the bytes.
-use Rattle.std.proofs.Common.{◌≡◌, ℕ, ◌+◌, ◌<◌, ◌≤◌, List, [], ◌∷◌, ◌++◌, length, refl, ap, subst, arith}
+use Rattle.std.proofs.Common.{◌≡◌, ℕ, ◌+◌, ◌<◌, ◌≤◌, cond, eqb, List, [], ◌∷◌, ◌++◌, length, refl, sym, ap, ◌∙◌, subst, inl, inr, arith, codes}
+use Rattle.std.proofs.lemmas.Bool.{cases_Bool}
 use Rattle.spec_value.specs.Tree.{Tree}
 use Rattle.spec_grammar.specs.Language.{Spell, Leaves}
-use Rattle.spec_grammar.specs.Reader.{Step, found, stopped, whole, first_is}
+use Rattle.spec_grammar.specs.Reader.{Step, found, stopped, behind, whole, first_is}
 use Rattle.spec_grammar.proofs.Missed.{missed_most}
 use Rattle.spec_grammar.proofs.Reading.{no_more, Finds, Stops, IsStep}
 use Rattle.spec_grammar.proofs.Sequences.{rest_le}
+use Rattle.spec_grammar.proofs.Joints.{behind_on, behind_stops}
 use Rattle.spec_grammar.proofs.Repetitions.{Unbegun}
 use Rattle.spec_grammar.proofs.Wholes.{IsVerdict, verdict_of}
 use Rattle.spec_syntax.specs.Number.{is_digit}
-use Rattle.spec_syntax.specs.Value.{any_value}
+use Rattle.spec_syntax.specs.Value.{value, any_value}
 use Rattle.spec_syntax.specs.ValueReader.{read_nested}
-use Rattle.spec_syntax.proofs.Values.{any_reads}
+use Rattle.spec_syntax.proofs.Values.{value_reads, any_reads}
 
 nothing_behind : Unbegun is_digit no_more
 nothing_behind v e = ap (first_is is_digit) e
@@ -48,3 +50,21 @@ front_of bs t rest f = rest_le bs f.front rest f.are
 
 pub rest_of : (bs : List ℕ) (t : Tree) (rest : List ℕ) → read_nested (length bs) bs ≡ found t rest → length rest ≤ length bs
 rest_of bs t rest h = front_of bs t rest (subst (λ st. IsStep any_value no_more bs st) h (value_step bs))
+
+nested_front : (depth : ℕ) (bs : List ℕ) (t : Tree) (rest : List ℕ) → Finds (value depth) no_more bs t rest → length rest ≤ length bs
+nested_front depth bs t rest f = rest_le bs f.front rest f.are
+
+-- a reader of any depth leaves no more than there was
+pub nested_rest : (depth : ℕ) (bs : List ℕ) (t : Tree) (rest : List ℕ) → read_nested depth bs ≡ found t rest → length rest ≤ length bs
+nested_rest depth bs t rest h =
+    nested_front depth bs t rest (subst (λ st. IsStep (value depth) no_more bs st) h (value_reads (length bs) depth no_more ([], refl) nothing_behind bs (omega arith)))
+
+-- an element behind its comma
+pub element_rest : (depth : ℕ) (bs : List ℕ) (t : Tree) (rest : List ℕ) → behind (codes ",") (read_nested depth) bs ≡ found t rest → length rest < length bs
+element_rest depth [] t rest h = cc
+element_rest depth (c ∷ bs) t rest h = elim (cases_Bool (eqb 44 c)) as (λ _. length rest < length (c ∷ bs)) [
+  | inl e ↦ omega (arith, nested_rest depth bs t rest (sym (behind_on (codes ",") (read_nested depth) (c ∷ bs) bs (ap (λ x. cond x (found tt bs) (stopped (length bs + 1))) e)) ∙ h))
+  | inr e ↦
+      let stops : found t rest ≡ stopped (length bs + 1) = sym h ∙ behind_stops (codes ",") (read_nested depth) (c ∷ bs) (length bs + 1) (ap (λ x. cond x (found tt bs) (stopped (length bs + 1))) e) in
+      cc
+]

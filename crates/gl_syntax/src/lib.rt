@@ -1,0 +1,13 @@
+//! Readers and writers of values, in their one spelling. What bytes spell is defined in `spec_syntax`.
+//! A reader goes once over the bytes, and says in which column they leave the grammar.
+//! A writer adds to bytes; where memory runs out it leaves them as they were.
+#![tactic(auto)]
+
+mod number;
+mod stop;
+mod text;
+mod value;
+
+pub use gl_value::{Bytes, Memory, Value};
+pub use stop::ReadFault;
+pub use value::read_value;
