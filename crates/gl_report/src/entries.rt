@@ -6,7 +6,7 @@ ghost use Rattle.spec_texts.specs.Order.{spelled_actor, spelled_rest, spelled_or
 ghost use Rattle.spec_texts.specs.Report.{reply_text, reply_lines, entry_lines};
 ghost use Rattle.gl_report.specs.Lines.{spelled_entry};
 
-use crate::number::write_number;
+use gl_syntax::add_number;
 use gl_value::{Bytes, Memory};
 use gl_world::{Actor, Reply, RunName, World};
 
@@ -40,11 +40,11 @@ fn write_actor(actor: Actor, out: &mut Bytes) -> Result<(), Memory>
     match actor {
         Actor::Writer(writer) => {
             out.push_all(b"w")?;
-            write_number(u64::from(writer), out)
+            add_number(u64::from(writer), out)
         }
         Actor::Proxy(proxy) => {
             out.push_all(b"p")?;
-            write_number(u64::from(proxy), out)
+            add_number(u64::from(proxy), out)
         }
     }
 }
@@ -64,7 +64,7 @@ fn write_entry(place: u64, actor: Actor, replies: &[Reply], out: &mut Bytes) -> 
     ensures { OnOk result (out.new ≡ out.old ++ spelled_entry place actor replies.now) }
 {
     out.push_all(b"at ")?;
-    write_number(place, out)?;
+    add_number(place, out)?;
     out.push_all(b" ")?;
     write_actor(actor, out)?;
     out.push_all(b"\n")?;
@@ -76,7 +76,7 @@ fn write_replies(replies: &[Reply], out: &mut Bytes) -> Result<(), Memory>
 {
     for (number, reply) in replies.iter().enumerate() {
         out.push_all(b"reply ")?;
-        write_number(number as u64, out)?;
+        add_number(number as u64, out)?;
         out.push_all(b" ")?;
         write_reply(*reply, out)?;
         out.push_all(b"\n")?;
@@ -97,8 +97,8 @@ fn write_out_of_range(index: u64, len: u64, out: &mut Bytes) -> Result<(), Memor
     ensures { OnOk result (out.new ≡ out.old ++ reply_text (Reply.OutOfRange index len)) }
 {
     out.push_all(b"out-of-range ")?;
-    write_number(index, out)?;
+    add_number(index, out)?;
     out.push_all(b" ")?;
-    write_number(len, out)?;
+    add_number(len, out)?;
     Ok(())
 }

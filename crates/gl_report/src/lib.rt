@@ -5,9 +5,7 @@
 
 mod entries;
 mod lists;
-mod number;
 mod text;
-mod value;
 
 pub use gl_value::{Bytes, Memory};
 pub use text::report;

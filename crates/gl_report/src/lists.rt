@@ -7,7 +7,7 @@ ghost use Rattle.spec_texts.specs.Value.{spelled_list};
 ghost use Rattle.spec_texts.specs.Report.{list_lines};
 ghost use Rattle.gl_report.specs.Lines.{list_line};
 
-use crate::value::{write_comma, write_value};
+use gl_syntax::{add_comma, add_value};
 use gl_value::{Bytes, Memory};
 use gl_world::{RunName, World};
 
@@ -48,8 +48,8 @@ fn write_shown<N: RunName>(world: &World<N>, list: u32, out: &mut Bytes) -> Resu
     out.push_all(b"[")?;
     for place in 0..world.len(list) {
         let value = world.shown(list, place).unwrap();
-        write_comma(place, out)?;
-        write_value(value, out)?;
+        add_comma(place, out)?;
+        add_value(value, out)?;
     }
     out.push_all(b"]")
 }

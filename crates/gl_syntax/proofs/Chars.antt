@@ -1,9 +1,8 @@
 -- Reading the bytes behind the first one of a character.
-use Rattle.std.proofs.Common.{◌≡◌, ◌⊎◌, inl, inr, ℕ, zero, suc, ◌+◌, ◌-◌, ◌<◌, ◌≤◌, ◌&&◌, false, cond, leb, List, [], ◌∷◌, ◌++◌, length, take, drop, get_or, refl, sym, ap, ◌∙◌, arith, drop-cons}
+use Rattle.std.proofs.Common.{◌≡◌, ◌⊎◌, inl, inr, ℕ, suc, ◌+◌, ◌-◌, ◌<◌, ◌≤◌, false, cond, List, [], ◌∷◌, ◌++◌, length, drop, get_or, ap, ◌∙◌, arith, drop-cons}
 use Rattle.std.proofs.lemmas.Bool.Decides.{nat_tests}
-use Rattle.std.specs.Prelude.{Option, Some, None, slice_get}
 use Rattle.std.proofs.lemmas.List.{drop_all, length-drop}
-use Rattle.spec_grammar.specs.Reader.{found, stopped, made, on, first_is, byte_of}
+use Rattle.spec_grammar.specs.Reader.{found, stopped, made, on}
 use Rattle.spec_syntax.specs.Number.{between}
 use Rattle.spec_syntax.specs.ValueReader.{read_continued}
 

@@ -4,10 +4,12 @@
 #![tactic(auto)]
 
 mod number;
+mod spelling;
 mod stop;
 mod text;
 mod value;
 
 pub use gl_value::{Bytes, Memory, Value};
+pub use spelling::{add_comma, add_number, add_signed, add_value, write_value};
 pub use stop::ReadFault;
 pub use value::read_value;

@@ -1,5 +1,5 @@
-//! Texts: the plan that bytes spell. What they spell is defined in `spec_texts`; here it is read, line by line.
-//! Nothing of a text is copied but the names of its lists.
+//! Texts: the value and the plan that bytes spell. What a plan's text spells is defined in `spec_texts`; here it is
+//! read, line by line. Nothing of it is copied but the names of its lists. Values are read and written by `gl_syntax`.
 #![tactic(auto)]
 
 mod build;
@@ -11,6 +11,7 @@ mod plan_text;
 
 pub use cuts::cut;
 pub use gl_plan::Plan;
+pub use gl_syntax::{ReadFault, read_value, write_value};
 pub use number::index;
 pub use plan_text::{one_plan, read_plan};
 

@@ -6,3 +6,4 @@ pub mod Utf8
 pub mod Enclosed
 pub mod Verdicts
 pub mod Spellings
+pub mod Canonical

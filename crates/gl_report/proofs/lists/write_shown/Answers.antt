@@ -3,8 +3,8 @@ use Rattle.std.specs.Prelude.{Some, slice_get}
 use Rattle.std.specs.Option.{option_copied}
 use Rattle.std.proofs.lemmas.Result.{IfOk-equal}
 use Rattle.spec_runs.specs.Run.{shown_after}
-use Rattle.gl_report.specs.Elements.{elements_from}
-use Rattle.gl_report.proofs.Elements.{closed, element_more, some_within}
+use Rattle.gl_syntax.specs.Elements.{elements_from}
+use Rattle.gl_syntax.proofs.Elements.{closed, element_more, some_within}
 use Rattle.gl_report.proofs.lists.write_shown.Goals as goal
 
 pub unwrap-value-requires : goal.unwrap-value-requires
@@ -17,7 +17,7 @@ pub loop-place-preserved : goal.loop-place-preserved
 loop-place-preserved g c =
     let values = shown_after c.args.world.now.plan c.args.world.now.order c.args.list in
     let there : slice_get values c.loop-place.place ≡ Some c.unwrap-value.result.now = sym c.shown.ensures.value ∙ ap option_copied c.unwrap-value.ensures in
-    rw (c.in_ok-write_value.ensures, c.in_ok-write_comma.ensures) (element_more c.loop-place.out _ values c.loop-place.place c.unwrap-value.result.now there c.loop-place.invariant)
+    rw (c.in_ok-add_value.ensures, c.in_ok-add_comma.ensures) (element_more c.loop-place.out _ values c.loop-place.place c.unwrap-value.result.now there c.loop-place.invariant)
 
 pub returns : goal.returns
 returns g c =

@@ -1,4 +1,4 @@
-use Rattle.std.proofs.Common.{◌≡◌, ℕ, List, [], ◌∷◌, ◌-◌, ◌<◌, ◌++◌, ◌∙◌, sym, ap, subst, arith, codes, MatchResult}
+use Rattle.std.proofs.Common.{◌≡◌, [], ◌∷◌, ◌-◌, ◌++◌, ◌∙◌, sym, ap, subst, arith, codes, MatchResult}
 use Rattle.spec_grammar.specs.Reader.{found, behind, folded}
 use Rattle.spec_grammar.proofs.Folds.{folded_on}
 use Rattle.spec_syntax.specs.ValueReader.{is, read_elements, read_nested, read_others, snoc}

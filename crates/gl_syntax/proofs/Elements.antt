@@ -6,7 +6,7 @@ use Rattle.std.proofs.lemmas.Option.{slice_get-get_or}
 use Rattle.std.proofs.lemmas.List.{drop_all}
 use Rattle.spec_value.specs.Tree.{Tree, num, tree_size, trees, trees_size}
 use Rattle.spec_texts.specs.Value.{spelled_value, spelled_elements, spelled_others, spelled_list}
-use Rattle.gl_report.specs.Elements.{comma_before, elements_from}
+use Rattle.gl_syntax.specs.Elements.{comma_before, elements_from}
 
 -- an element is smaller than its list
 pub tree_size-at : (xs : List Tree) (i : ℕ) (x : Tree) → i < length xs → x ≡ get_or xs i x → tree_size x + 1 ≤ trees_size (trees xs)

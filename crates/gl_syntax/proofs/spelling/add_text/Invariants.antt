@@ -1,7 +1,7 @@
 use Rattle.std.proofs.Common.{◌≡◌, ◌++◌, take}
 use Rattle.std.specs.List.{flat_map}
 use Rattle.spec_texts.specs.Value.{spelled_byte}
-use Rattle.gl_report.proofs.value.write_text.Given as goal
+use Rattle.gl_syntax.proofs.spelling.add_text.Given as goal
 
 abbrev pub invariant-loop-byte : goal.invariant-loop-byte
 invariant-loop-byte l = l.out ≡ l.initial.out ++ flat_map spelled_byte (take l.byte-index l.bytes)
