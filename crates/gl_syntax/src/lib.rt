@@ -6,6 +6,8 @@
 mod number;
 mod spelling;
 mod stop;
+#[cfg(test)]
+mod tests;
 mod text;
 mod value;
 

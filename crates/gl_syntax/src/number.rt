@@ -1,15 +1,15 @@
 //! Numbers at the front of bytes. A number never leaves its range: it ends before the digit with which it would.
 
-ghost use Rattle.std.specs.Prelude.{◌≡◌, ◌≤◌, ◌<◌, MatchResult, IfOk};
+ghost use Rattle.std.specs.Prelude.{◌≡◌, ◌≤◌, ◌<◌, IfOk};
 ghost use Rattle.spec_grammar.specs.Reader.{found};
 ghost use Rattle.spec_syntax.specs.ValueReader.{read_longer, read_positive, read_natural, read_number};
-ghost use Rattle.gl_syntax.specs.Stop.{IsStop};
+ghost use Rattle.gl_syntax.specs.Stop.{Reads};
 
 use crate::stop::Stop;
 
 /// The number and the bytes behind it.
 pub(crate) fn number_ahead(bytes: &[u8]) -> Result<(i64, &[u8]), Stop>
-    ensures { MatchResult result (λ x. read_number bytes.now ≡ found x.0 x.1.now) (IsStop (read_number bytes.now)) }
+    ensures { Reads result (read_number bytes.now) }
 {
     if let [b'-', digits @ ..] = bytes {
         let (size, rest) = positive_ahead(1 << 63, digits)?;
@@ -22,7 +22,7 @@ pub(crate) fn number_ahead(bytes: &[u8]) -> Result<(i64, &[u8]), Stop>
 /// The number from 0 to `top`, and the bytes behind it.
 pub(crate) fn natural_ahead(top: u64, bytes: &[u8]) -> Result<(u64, &[u8]), Stop>
     requires { 9 ≤ top }
-    ensures read { MatchResult result (λ x. read_natural top bytes.now ≡ found x.0 x.1.now) (IsStop (read_natural top bytes.now)) }
+    ensures read { Reads result (read_natural top bytes.now) }
     ensures within { IfOk result (λ x. x.0 ≤ top) }
 {
     match bytes {
@@ -34,7 +34,7 @@ pub(crate) fn natural_ahead(top: u64, bytes: &[u8]) -> Result<(u64, &[u8]), Stop
 // The number from 1 to `top`, and the bytes behind it.
 fn positive_ahead(top: u64, bytes: &[u8]) -> Result<(u64, &[u8]), Stop>
     requires { 9 ≤ top }
-    ensures read { MatchResult result (λ x. read_positive top bytes.now ≡ found x.0 x.1.now) (IsStop (read_positive top bytes.now)) }
+    ensures read { Reads result (read_positive top bytes.now) }
     ensures some { IfOk result (λ x. 0 < x.0) }
     ensures within { IfOk result (λ x. x.0 ≤ top) }
 {

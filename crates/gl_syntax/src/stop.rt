@@ -43,7 +43,8 @@ impl From<AllocError> for Stop {
 /// What is behind the word, with which the bytes must begin.
 #[tactic(auto, using(crate::proofs::Words::word_past))]
 pub(crate) fn word<'a>(word: &[u8], bytes: &'a [u8]) -> Result<&'a [u8], Stop>
-    ensures { MatchResult result (λ rest. read_word word.now bytes.now ≡ found tt rest.now) (IsStop (read_word word.now bytes.now)) }
+    ensures { MatchResult result (λ rest. read_word word.now bytes.now ≡ found tt rest.now)
+        (IsStop (read_word word.now bytes.now)) }
 {
     let mut rest = bytes;
     for sign in word {

@@ -3,17 +3,18 @@
 ghost use Rattle.std.specs.Prelude.{◌≡◌, ◌++◌, ◌<◌, ◌≤◌, take, drop, length, MatchResult, IfOk, IsTrue, IsUtf8};
 ghost use Rattle.spec_grammar.specs.Reader.{found, made, first_is};
 ghost use Rattle.spec_syntax.specs.Text.{behind_lead, is_lead, is_hex, hex_value};
-ghost use Rattle.spec_syntax.specs.ValueReader.{begins_char, read_continued, read_plain, read_escape, read_hex_byte, read_char, read_chars, read_text};
-ghost use Rattle.gl_syntax.specs.Stop.{IsStop};
+ghost use Rattle.spec_syntax.specs.ValueReader.{begins_char, read_continued, read_plain, read_escape};
+ghost use Rattle.spec_syntax.specs.ValueReader.{read_hex_byte, read_char, read_chars, read_text};
+ghost use Rattle.gl_syntax.specs.Stop.{IsStop, Reads};
 
 use crate::stop::{Stop, word};
 use gl_value::{Bytes, Text, TextFault};
 use std::alloc::Global;
 
 /// The text and the bytes behind it. It takes memory for the text, and for its bytes while they are read.
-#[tactic(auto, using(spec_syntax::proofs::Enclosed::text_found, spec_syntax::proofs::Enclosed::text_stops, spec_syntax::proofs::Enclosed::text_stops_inside, spec_syntax::proofs::Enclosed::text_stops_last, spec_syntax::proofs::Utf8::text_is_utf8))]
+#[tactic(auto, using(spec_syntax::proofs::Enclosed::text_found, spec_syntax::proofs::Enclosed::text_stops, spec_syntax::proofs::Enclosed::text_stops_inside, spec_syntax::proofs::Enclosed::text_stops_last, spec_syntax::proofs::Utf8::text_is_utf8,))]
 pub(crate) fn text_ahead(alloc: Global, bytes: &[u8]) -> Result<(Text, &[u8]), Stop>
-    ensures { MatchResult result (λ x. read_text bytes.now ≡ found x.0 x.1.now) (IsStop (read_text bytes.now)) }
+    ensures { Reads result (read_text bytes.now) }
 {
     let inside = word(b"\"", bytes)?;
     let (chars, rest) = chars_ahead(alloc, inside)?;
@@ -59,7 +60,9 @@ fn begins_char(bytes: &[u8]) -> bool
 
 // Adds the bytes that the character ahead stands for; the bytes behind it are left.
 fn add_char<'a>(bytes: &'a [u8], chars: &mut Bytes) -> Result<&'a [u8], Stop>
-    ensures read { MatchResult result (λ rest. made (λ char. chars.old ++ char) (read_char bytes.now) ≡ found chars.new rest.now) (IsStop (read_char bytes.now)) }
+    ensures read { MatchResult result
+        (λ rest. made (λ char. chars.old ++ char) (read_char bytes.now) ≡ found chars.new rest.now)
+        (IsStop (read_char bytes.now)) }
     ensures shorter { IfOk result (λ rest. length rest.now < length bytes.now) }
 {
     if let [b'\\', behind @ ..] = bytes {
@@ -74,7 +77,7 @@ fn add_char<'a>(bytes: &'a [u8], chars: &mut Bytes) -> Result<&'a [u8], Stop>
 
 // The byte that is escaped, behind the backslash, and the bytes behind it.
 fn escape_ahead(bytes: &[u8]) -> Result<(u8, &[u8]), Stop>
-    ensures read { MatchResult result (λ x. read_escape bytes.now ≡ found x.0 x.1.now) (IsStop (read_escape bytes.now)) }
+    ensures read { Reads result (read_escape bytes.now) }
     ensures shorter { IfOk result (λ x. length x.1.now < length bytes.now) }
 {
     match bytes {
@@ -88,7 +91,7 @@ fn escape_ahead(bytes: &[u8]) -> Result<(u8, &[u8]), Stop>
 
 // The byte of two hexadecimal digits, and the bytes behind them.
 fn hex_byte_ahead(bytes: &[u8]) -> Result<(u8, &[u8]), Stop>
-    ensures read { MatchResult result (λ x. read_hex_byte bytes.now ≡ found x.0 x.1.now) (IsStop (read_hex_byte bytes.now)) }
+    ensures read { Reads result (read_hex_byte bytes.now) }
     ensures shorter { IfOk result (λ x. length x.1.now < length bytes.now) }
 {
     match bytes {
@@ -115,7 +118,8 @@ fn hex_value(digit: u8) -> u8
 
 // The bytes of the character ahead, which stands as it is, and the bytes behind it.
 fn plain_ahead(bytes: &[u8]) -> Result<(&[u8], &[u8]), Stop>
-    ensures read { MatchResult result (λ x. read_plain bytes.now ≡ found x.0.now x.1.now) (IsStop (read_plain bytes.now)) }
+    ensures read { MatchResult result (λ x. read_plain bytes.now ≡ found x.0.now x.1.now)
+        (IsStop (read_plain bytes.now)) }
     ensures shorter { IfOk result (λ x. length x.1.now < length bytes.now) }
 {
     match bytes {
@@ -154,7 +158,9 @@ fn behind_lead(first: u8) -> &'static [(u8, u8)]
 // Whether the bytes begin with one of each range.
 #[tactic(auto, using(crate::proofs::Chars::continued_past, crate::proofs::Chars::continued_out))]
 fn continued(ranges: &[(u8, u8)], bytes: &[u8]) -> Result<(), Stop>
-    ensures read { MatchResult result (λ _. read_continued ranges.now bytes.now ≡ found (take (length ranges.now) bytes.now) (drop (length ranges.now) bytes.now)) (IsStop (read_continued ranges.now bytes.now)) }
+    ensures read { let n = length ranges.now in
+        MatchResult result (λ _. read_continued ranges.now bytes.now ≡ found (take n bytes.now) (drop n bytes.now))
+        (IsStop (read_continued ranges.now bytes.now)) }
     ensures within { IfOk result (λ _. length ranges.now ≤ length bytes.now) }
 {
     for (place, range) in ranges.iter().enumerate() {

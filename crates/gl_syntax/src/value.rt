@@ -2,10 +2,10 @@
 
 ghost use Rattle.std.specs.Prelude.{◌≡◌, ◌≤◌, ◌+◌, ◌-◌, ◌∷◌, ◌++◌, [], length, codes, MatchResult, IfOk};
 ghost use Rattle.spec_grammar.specs.Language.{Spell};
-ghost use Rattle.spec_grammar.specs.Reader.{found, behind};
+ghost use Rattle.spec_grammar.specs.Reader.{behind};
 ghost use Rattle.spec_syntax.specs.Value.{any_value};
 ghost use Rattle.spec_syntax.specs.ValueReader.{read_leaf, read_elements, read_others, read_list, read_nested};
-ghost use Rattle.gl_syntax.specs.Stop.{IsStop};
+ghost use Rattle.gl_syntax.specs.Stop.{Reads};
 ghost use Rattle.gl_syntax.specs.Fault.{IsFault};
 
 use crate::number::number_ahead;
@@ -16,7 +16,7 @@ use std::alloc::{AllocError, Global};
 
 /// The value that the bytes spell, of any depth. It takes memory for the value, goes once over the bytes, and recurses
 /// once a level of nesting: where the bytes come from outside, bound their number by the stack that there is.
-#[tactic(auto, using(spec_syntax::proofs::Verdicts::spelled_all, spec_syntax::proofs::Verdicts::spelled_front, spec_syntax::proofs::Verdicts::spelled_none, spec_syntax::proofs::Verdicts::left_le, spec_syntax::proofs::Verdicts::rest_of))]
+#[tactic(auto, using(spec_syntax::proofs::Verdicts::spelled_all, spec_syntax::proofs::Verdicts::spelled_front, spec_syntax::proofs::Verdicts::spelled_none, spec_syntax::proofs::Verdicts::left_le, spec_syntax::proofs::Verdicts::rest_of,))]
 pub fn read_value(alloc: Global, bytes: &[u8]) -> Result<Value, ReadFault>
     ensures { MatchResult result (Spell any_value bytes.now) (IsFault any_value bytes.now) }
 {
@@ -44,9 +44,9 @@ fn fault_at(bytes: &[u8], left: usize) -> ReadFault
 
 /// The value, nested at most so deep, and the bytes behind it.
 #[cycle(value)]
-#[tactic(auto, using(spec_syntax::proofs::Enclosed::nested_list, spec_syntax::proofs::Enclosed::nested_leaf, spec_syntax::proofs::Enclosed::nested_flat))]
+#[tactic(auto, using(spec_syntax::proofs::Enclosed::nested_list, spec_syntax::proofs::Enclosed::nested_leaf, spec_syntax::proofs::Enclosed::nested_flat,))]
 pub(crate) fn value_ahead(alloc: Global, depth: usize, bytes: &[u8]) -> Result<(Value, &[u8]), Stop>
-    ensures { MatchResult result (λ x. read_nested depth bytes.now ≡ found x.0 x.1.now) (IsStop (read_nested depth bytes.now)) }
+    ensures { Reads result (read_nested depth bytes.now) }
 {
     if depth > 0 && begins_with(b'[', bytes) {
         return list_ahead(alloc, depth - 1, bytes);
@@ -56,9 +56,9 @@ pub(crate) fn value_ahead(alloc: Global, depth: usize, bytes: &[u8]) -> Result<(
 
 // The list of values nested at most so deep, and the bytes behind it.
 #[cycle(value)]
-#[tactic(auto, using(spec_syntax::proofs::Enclosed::list_found, spec_syntax::proofs::Enclosed::list_stops, spec_syntax::proofs::Enclosed::list_stops_inside, spec_syntax::proofs::Enclosed::list_stops_last))]
+#[tactic(auto, using(spec_syntax::proofs::Enclosed::list_found, spec_syntax::proofs::Enclosed::list_stops, spec_syntax::proofs::Enclosed::list_stops_inside, spec_syntax::proofs::Enclosed::list_stops_last,))]
 fn list_ahead(alloc: Global, depth: usize, bytes: &[u8]) -> Result<(Value, &[u8]), Stop>
-    ensures { MatchResult result (λ x. read_list (read_nested depth) bytes.now ≡ found x.0 x.1.now) (IsStop (read_list (read_nested depth) bytes.now)) }
+    ensures { Reads result (read_list (read_nested depth) bytes.now) }
 {
     let inside = word(b"[", bytes)?;
     let (values, rest) = elements_ahead(alloc, depth, inside)?;
@@ -67,9 +67,9 @@ fn list_ahead(alloc: Global, depth: usize, bytes: &[u8]) -> Result<(Value, &[u8]
 }
 
 #[cycle(value)]
-#[tactic(auto, using(spec_syntax::proofs::Enclosed::elements_none, spec_syntax::proofs::Enclosed::elements_found, spec_syntax::proofs::Enclosed::elements_stop))]
+#[tactic(auto, using(spec_syntax::proofs::Enclosed::elements_none, spec_syntax::proofs::Enclosed::elements_found, spec_syntax::proofs::Enclosed::elements_stop,))]
 fn elements_ahead(alloc: Global, depth: usize, bytes: &[u8]) -> Result<(Values, &[u8]), Stop>
-    ensures { MatchResult result (λ x. read_elements (read_nested depth) bytes.now ≡ found x.0 x.1.now) (IsStop (read_elements (read_nested depth) bytes.now)) }
+    ensures { Reads result (read_elements (read_nested depth) bytes.now) }
 {
     if begins_with(b']', bytes) {
         return Ok((Values::new(alloc), bytes));
@@ -87,7 +87,7 @@ fn others_ahead(
     values: Values,
     bytes: &[u8],
 ) -> Result<(Values, &[u8]), Stop>
-    ensures { MatchResult result (λ x. read_others (read_nested depth) values bytes.now ≡ found x.0 x.1.now) (IsStop (read_others (read_nested depth) values bytes.now)) }
+    ensures { Reads result (read_others (read_nested depth) values bytes.now) }
 {
     let mut values = values;
     let mut rest = bytes;
@@ -102,7 +102,7 @@ fn others_ahead(
 #[cycle(value)]
 #[tactic(auto, using(spec_grammar::proofs::Joints::behind_on, spec_grammar::proofs::Joints::behind_stops))]
 fn behind_comma(alloc: Global, depth: usize, bytes: &[u8]) -> Result<(Value, &[u8]), Stop>
-    ensures { MatchResult result (λ x. behind (codes ",") (read_nested depth) bytes.now ≡ found x.0 x.1.now) (IsStop (behind (codes ",") (read_nested depth) bytes.now)) }
+    ensures { Reads result (behind (codes ",") (read_nested depth) bytes.now) }
 {
     let rest = word(b",", bytes)?;
     value_ahead(alloc, depth, rest)
@@ -118,7 +118,7 @@ fn with_value(mut values: Values, value: Value) -> Result<Values, AllocError>
 }
 
 fn leaf_ahead(alloc: Global, bytes: &[u8]) -> Result<(Value, &[u8]), Stop>
-    ensures { MatchResult result (λ x. read_leaf bytes.now ≡ found x.0 x.1.now) (IsStop (read_leaf bytes.now)) }
+    ensures { Reads result (read_leaf bytes.now) }
 {
     if begins_with(b'"', bytes) {
         let (text, rest) = text_ahead(alloc, bytes)?;
