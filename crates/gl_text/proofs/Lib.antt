@@ -4,3 +4,4 @@ pub mod LineLaws
 pub mod LineAgain
 pub mod TextLaws
 pub mod Names
+pub mod BlockLaws

@@ -2,6 +2,7 @@
 //! read, line by line. Nothing of it is copied but the names of its lists. Values are read and written by `gl_syntax`.
 #![tactic(auto)]
 
+mod block;
 mod build;
 mod cuts;
 mod line;
@@ -9,6 +10,7 @@ mod lists;
 mod number;
 mod plan_text;
 
+pub use block::block_rows;
 pub use cuts::cut;
 pub use gl_plan::Plan;
 pub use gl_syntax::{ReadFault, read_value, write_value};
