@@ -1,15 +1,14 @@
 -- Each value has one spelling: what the grammar spells is exactly that.
-use Rattle.std.proofs.Common.{◌≡◌, ◌⊎◌, ℕ, zero, suc, ◌+◌, ◌*◌, ◌/◌, ◌%◌, ◌<◌, ◌≤◌, Bool, true, false, ◌&&◌, ◌||◌, not, cond, eqb, leb, List, [], ◌∷◌, ◌++◌, refl, sym, ap, ◌∙◌, subst, inl, inr, arith, append_assoc, append-nil, codes}
+use Rattle.std.proofs.Common.{◌≡◌, ℕ, zero, suc, ◌+◌, ◌*◌, ◌/◌, ◌%◌, ◌<◌, ◌≤◌, Bool, true, false, ◌&&◌, ◌||◌, not, cond, eqb, leb, List, [], ◌∷◌, ◌++◌, refl, sym, ap, ◌∙◌, inl, inr, arith, append-nil, codes}
 use Rattle.std.specs.Prelude.{flat_map}
 use Rattle.std.specs.List.{AllByRecursion}
-use Rattle.std.specs.Fmt.{signed_decimal}
-use Rattle.std.proofs.lemmas.Bool.{cases_Bool, cases_lt, false≢true}
+use Rattle.std.proofs.lemmas.Bool.{false≢true}
 use Rattle.std.proofs.lemmas.Bool.Decides.{nat_tests}
 use Rattle.std.proofs.lemmas.Grind.{flat_map-append}
-use Rattle.spec_value.specs.Tree.{Tree, num, text, items_of, trees}
-use Rattle.spec_grammar.specs.Grammar.{Grammar, mapped, either, optional, after, closed, many, listed}
+use Rattle.spec_value.specs.Tree.{Tree, text, items_of, trees}
+use Rattle.spec_grammar.specs.Grammar.{Grammar, optional, after, many, listed}
 use Rattle.spec_texts.specs.Value.{hex_digit, spelled_byte, spelled_value, spelled_elements, spelled_others}
-use Rattle.spec_syntax.specs.Number.{between, number}
+use Rattle.spec_syntax.specs.Number.{between}
 use Rattle.spec_syntax.specs.Text.{continued, is_lead, behind_lead, plain, is_hex, hex_value, second_hex, hex_byte, is_short, short_for, escape, char, joined, texts}
 use Rattle.spec_syntax.specs.Value.{list_of, leaf, value, any_value}
 use Rattle.spec_syntax.proofs.Spellings.{number_is}

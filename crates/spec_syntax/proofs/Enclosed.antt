@@ -33,36 +33,36 @@ text_stops_inside bs r1 left h g = text_is bs r1 h ∙ close_stops (made_of join
 pub text_stops_last : (bs r1 r2 chars : List ℕ) (left : ℕ) → read_word (34 ∷ []) bs ≡ found tt r1 → read_chars r1 ≡ found chars r2 → read_word (34 ∷ []) r2 ≡ stopped left → read_text bs ≡ stopped left
 text_stops_last bs r1 r2 chars left h g k = text_is bs r1 h ∙ close_ends (made_of joined (all_of begins_char read_char)) (codes "\"") r1 chars r2 left (sym (chars_are r1) ∙ g) k
 
-fold_snoc : (a list : List Tree) → fold snoc a list ≡ a ++ list
+fold_snoc : {A : Type 0} (a list : List A) → fold snoc a list ≡ a ++ list
 fold_snoc a [] = sym (append-nil a)
 fold_snoc a (t ∷ list) = fold_snoc (snoc a t) list ∙ append_assoc a (t ∷ []) list
 
-others_are : (r : Reader Tree) (first : Tree) (bs : List ℕ) → read_others r (first ∷ []) bs ≡ made (λ list. first ∷ list) (all_of (is 44) (behind (codes ",") r) bs)
+others_are : {A : Type 0} (r : Reader A) (first : A) (bs : List ℕ) → read_others r (first ∷ []) bs ≡ made (λ list. first ∷ list) (all_of (is 44) (behind (codes ",") r) bs)
 others_are r first bs =
     folded_is snoc (first ∷ []) (length bs) (is 44) (behind (codes ",") r) bs
     ∙ made_same (fold snoc (first ∷ [])) (λ list. first ∷ list) (repeated (length bs) (is 44) (behind (codes ",") r) bs) (fold_snoc (first ∷ []))
 
-pub elements_none : (r : Reader Tree) (bs : List ℕ) → first_is (is 93) bs ≡ true → read_elements r bs ≡ found [] bs
+pub elements_none : {A : Type 0} (r : Reader A) (bs : List ℕ) → first_is (is 93) bs ≡ true → read_elements r bs ≡ found [] bs
 elements_none r bs h = ap (λ x. cond x (found [] bs) (made_of (λ b. b.0 ∷ b.1) (seq r (all_of (is 44) (behind (codes ",") r))) bs)) h
 
-elements_some : (r : Reader Tree) (bs : List ℕ) → first_is (is 93) bs ≡ false → read_elements r bs ≡ made_of (λ b. b.0 ∷ b.1) (seq r (all_of (is 44) (behind (codes ",") r))) bs
+elements_some : {A : Type 0} (r : Reader A) (bs : List ℕ) → first_is (is 93) bs ≡ false → read_elements r bs ≡ made_of (λ b. b.0 ∷ b.1) (seq r (all_of (is 44) (behind (codes ",") r))) bs
 elements_some r bs h = ap (λ x. cond x (found [] bs) (made_of (λ b. b.0 ∷ b.1) (seq r (all_of (is 44) (behind (codes ",") r))) bs)) h
 
-made_pair : (first : Tree) (st : Step (List Tree)) → made {A = Tree × List Tree} (λ b. b.0 ∷ b.1) (made (λ list. (first, list)) st) ≡ made (λ list. first ∷ list) st
+made_pair : {A : Type 0} (first : A) (st : Step (List A)) → made {A = A × List A} (λ b. b.0 ∷ b.1) (made (λ list. (first, list)) st) ≡ made (λ list. first ∷ list) st
 made_pair first (found list rest) = refl
 made_pair first (stopped left) = refl
 
-pub elements_found : (r : Reader Tree) (bs : List ℕ) (first : Tree) (rest : List ℕ) → first_is (is 93) bs ≡ false → r bs ≡ found first rest → read_elements r bs ≡ read_others r (first ∷ []) rest
-elements_found r bs first rest h g =
+pub elements_found : {A : Type 0} (r : Reader A) (bs : List ℕ) (first : A) (rest : List ℕ) → first_is (is 93) bs ≡ false → r bs ≡ found first rest → read_elements r bs ≡ read_others r (first ∷ []) rest
+elements_found {A = A} r bs first rest h g =
     elements_some r bs h
-    ∙ ap (λ st. made {A = Tree × List Tree} (λ b. b.0 ∷ b.1) (on st (λ a left. made (λ list. (a, list)) (all_of (is 44) (behind (codes ",") r) left)))) g
+    ∙ ap (λ st. made {A = A × List A} (λ b. b.0 ∷ b.1) (on st (λ a left. made (λ list. (a, list)) (all_of (is 44) (behind (codes ",") r) left)))) g
     ∙ made_pair first (all_of (is 44) (behind (codes ",") r) rest)
     ∙ sym (others_are r first rest)
 
-pub elements_stop : (r : Reader Tree) (bs : List ℕ) (left : ℕ) → first_is (is 93) bs ≡ false → r bs ≡ stopped left → read_elements r bs ≡ stopped left
-elements_stop r bs left h g =
+pub elements_stop : {A : Type 0} (r : Reader A) (bs : List ℕ) (left : ℕ) → first_is (is 93) bs ≡ false → r bs ≡ stopped left → read_elements r bs ≡ stopped left
+elements_stop {A = A} r bs left h g =
     elements_some r bs h
-    ∙ ap (λ st. made {A = Tree × List Tree} (λ b. b.0 ∷ b.1) (on st (λ a rest. made (λ list. (a, list)) (all_of (is 44) (behind (codes ",") r) rest)))) g
+    ∙ ap (λ st. made {A = A × List A} (λ b. b.0 ∷ b.1) (on st (λ a rest. made (λ list. (a, list)) (all_of (is 44) (behind (codes ",") r) rest)))) g
 
 pub list_found : (r : Reader Tree) (bs r1 r2 r3 : List ℕ) (values : List Tree) → read_word (91 ∷ []) bs ≡ found tt r1 → read_elements r r1 ≡ found values r2 → read_word (93 ∷ []) r2 ≡ found tt r3 → read_list r bs ≡ found (items_of values) r3
 list_found r bs r1 r2 r3 values h g k =

@@ -1,9 +1,14 @@
 pub mod Firsts
 pub mod Numbers
 pub mod Texts
+pub mod Lists
 pub mod Values
 pub mod Utf8
 pub mod Enclosed
 pub mod Verdicts
 pub mod Spellings
 pub mod Canonical
+pub mod Ahead
+pub mod Paths
+pub mod Funcs
+pub mod Matchers

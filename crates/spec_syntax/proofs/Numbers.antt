@@ -11,7 +11,7 @@ use Rattle.spec_grammar.proofs.Choices.{NoneStarts, or_else_reads, led_reads}
 use Rattle.spec_grammar.proofs.Repetitions.{Begun, Unbegun, begun_word, starts_begun}
 use Rattle.spec_syntax.specs.Number.{between, is_digit, longer, positive, natural, negative, number}
 use Rattle.spec_syntax.specs.ValueReader.{is, read_longer, read_positive, read_natural, read_number}
-use Rattle.spec_syntax.proofs.Firsts.{begun_led, begun_mapped, none_mapped, none_either, none_word, none_after, none_outside}
+use Rattle.spec_syntax.proofs.Firsts.{begun_led, begun_mapped, begun_either, begun_more, none_mapped, none_either, none_word, none_after, none_outside}
 
 -- one digit more
 longer_more : (top a : ℕ) (F : Tails) (d : ℕ) (ds : List ℕ) (st : Step ℕ) → Unbegun is_digit F → is_digit d ≡ true → a * 10 + (d - 48) ≤ top → IsStep (longer top (a * 10 + (d - 48))) F ds st → IsStep (longer top a) F (d ∷ ds) st
@@ -91,6 +91,18 @@ begun_positive top = begun_mapped (between 49 57) (λ by. by.1) (led (between 49
 
 begun_zero : Begun {A = ℕ} (is 48) (mapped (λ _. 0) (word (codes "0")))
 begun_zero b t s = ap (first_is (is 48)) s.1
+
+digit_first : (b : ℕ) → between 49 57 b ≡ true → is_digit b ≡ true
+digit_first b h = grind (arith, nat_tests)
+
+zero_digit : Begun {A = ℕ} is_digit (mapped (λ _. 0) (word (codes "0")))
+zero_digit b t s = ap (first_is is_digit) s.1
+
+pub begun_natural : (top : ℕ) → Begun is_digit (natural top)
+begun_natural top = begun_either is_digit (mapped (λ _. 0) (word (codes "0"))) (positive top) zero_digit (begun_more (between 49 57) is_digit (positive top) digit_first (begun_positive top))
+
+abbrev pub has_natural : (top : ℕ) → Has (natural top)
+has_natural top = (0, 48 ∷ [], inl (tt, refl, refl))
 
 pub natural_reads : (n top : ℕ) (F : Tails) → HasTail F → Unbegun is_digit F → Reads n (natural top) F (read_natural top)
 natural_reads n top F some un =

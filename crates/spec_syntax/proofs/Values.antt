@@ -1,28 +1,25 @@
 -- The readers of values read their grammars.
-use Rattle.std.proofs.Common.{◌≡◌, ℕ, zero, suc, pos, ◌+◌, ◌-◌, ◌≤◌, max, false, eqb, List, [], ◌∷◌, ◌++◌, length, refl, sym, ap, ◌∙◌, subst, inl, inr, arith, append_assoc, codes}
+use Rattle.std.proofs.Common.{◌≡◌, ℕ, zero, suc, pos, ◌+◌, ◌-◌, ◌≤◌, max, false, eqb, List, [], ◌∷◌, ◌++◌, length, refl, sym, subst, inl, inr, arith, codes}
 use Rattle.spec_value.specs.Tree.{Tree, num, text, items_of}
-use Rattle.spec_grammar.specs.Grammar.{Grammar, empty, mapped, word, both, either, after, closed, optional, many, listed}
-use Rattle.spec_grammar.specs.Reader.{found, stopped, Reader, first_is, made_of, seq, behind, close, all_of}
+use Rattle.spec_grammar.specs.Grammar.{Grammar, mapped, either, after, closed, optional, many, listed}
+use Rattle.spec_grammar.specs.Reader.{stopped, Reader, made_of}
 use Rattle.spec_grammar.proofs.Missed.{missed_all}
-use Rattle.spec_grammar.proofs.Reading.{Tails, followed, IsStep, Stops, Reads, Has, HasTail}
-use Rattle.spec_grammar.proofs.Sequences.{followed_has, made_of_step, made_of_reads, nothing_step, alike_step, seq_reads, behind_reads, close_reads}
-use Rattle.spec_grammar.proofs.Choices.{Starts, NoneStarts, or_else_step, or_else_reads}
-use Rattle.spec_grammar.proofs.Repetitions.{Begun, Unbegun, begun_word, starts_begun, many_reads, unbegun_word, unbegun_many}
+use Rattle.spec_grammar.proofs.Reading.{Tails, IsStep, Stops, Reads, Has, HasTail}
+use Rattle.spec_grammar.proofs.Sequences.{made_of_reads, alike_step}
+use Rattle.spec_grammar.proofs.Choices.{NoneStarts, or_else_step, or_else_reads}
+use Rattle.spec_grammar.proofs.Repetitions.{Begun, Unbegun, begun_word, starts_begun}
 use Rattle.spec_syntax.specs.Number.{between, is_digit, number}
 use Rattle.spec_syntax.specs.Text.{texts}
 use Rattle.spec_syntax.specs.Value.{list_of, leaf, value, any_value}
-use Rattle.spec_syntax.specs.ValueReader.{is, read_number, read_text, read_leaf, read_elements, read_list, read_nested}
+use Rattle.spec_syntax.specs.ValueReader.{is, read_number, read_text, read_leaf, read_list, read_nested}
+use Rattle.spec_syntax.proofs.Lists.{bracketed, read_bracketed, Unclosing, ReadsAhead, bracketed_reads}
 use Rattle.spec_syntax.proofs.Firsts.{begun_mapped, none_mapped, none_either, none_outside}
 use Rattle.spec_syntax.proofs.Numbers.{number_reads, none_number}
 use Rattle.spec_syntax.proofs.Texts.{text_reads, begun_texts}
 
--- no value begins with a closing bracket
-abbrev pub Unclosing : Grammar Tree → Type 1
-Unclosing V = (F : Tails) → NoneStarts (is 93) V F
-
 -- the reader of elements reads them ahead of whatever begins with no digit
 abbrev pub ReadsElements : ℕ → Grammar Tree → Reader Tree → Type 1
-ReadsElements n V r = (F : Tails) → HasTail F → Unbegun is_digit F → Reads n V F r
+ReadsElements n V r = ReadsAhead n is_digit V r
 
 pub leaf_reads : (n : ℕ) (F : Tails) → HasTail F → Unbegun is_digit F → Reads n leaf F read_leaf
 leaf_reads n F some un =
@@ -54,50 +51,9 @@ unfolding value
 has_value zero = (num (pos 0), 48 ∷ [], inr (pos 0, inr (0, inl (tt, refl, refl), refl), refl))
 has_value (suc depth) = (num (pos 0), 48 ∷ [], inr (inr (pos 0, inr (0, inl (tt, refl, refl), refl), refl)))
 
--- one element and more of them
-listed_reads : (n : ℕ) (V : Grammar Tree) (r : Reader Tree) (F : Tails) → Has V → HasTail F → Unbegun (is 44) F → Unbegun is_digit F → ReadsElements n V r → Reads n (listed V (codes ",")) F (made_of (λ b. b.0 ∷ b.1) (seq r (all_of (is 44) (behind (codes ",") r))))
-listed_reads n V r F has some commaless un reads =
-    let others : Grammar (List Tree) = many (after (codes ",") V) in
-    let more : HasTail (followed others F) = followed_has others F ([], [], refl) some in
-    let undigit : Unbegun is_digit (followed others F) = unbegun_many is_digit 44 [] V F refl un in
-    made_of_reads n (λ b. b.0 ∷ b.1) (both V others) F (seq r (all_of (is 44) (behind (codes ",") r)))
-    (seq_reads n V others F r (all_of (is 44) (behind (codes ",") r)) (reads (followed others F) more undigit)
-    (many_reads n (is 44) (after (codes ",") V) F (behind (codes ",") r) (begun_word (is 44) 44 [] V refl) commaless
-    (behind_reads n n (codes ",") V (followed others F) r (omega arith) has more (reads (followed others F) more undigit))))
-
-none_listed : (V : Grammar Tree) (F : Tails) → Unclosing V → NoneStarts (is 93) (listed V (codes ",")) F
-none_listed V F h a t v s tail =
-    ap (first_is (is 93)) (ap (λ x. x ++ v) s.1.4 ∙ append_assoc s.1.0 s.1.1 v)
-    ∙ h (followed (many (after (codes ",") V)) F) s.0.0 s.1.0 (s.1.1 ++ v) s.1.2 (s.0.1, s.1.1, v, s.1.3, tail, refl)
-
--- nothing ahead of a closing bracket
-starts_nothing : (F : Tails) → Starts {A = List Tree} (is 93) (mapped (λ _. []) empty) (followed (word (codes "]")) F)
-starts_nothing F a t v s tail = ap (λ x. first_is (is 93) (x ++ v)) s.1 ∙ ap (first_is (is 93)) (tail.5 ∙ ap (λ x. x ++ tail.2) tail.3)
-
-elements_to : (V : Grammar Tree) (a : List Tree) (t : List ℕ) → either (mapped (λ _. []) empty) (listed V (codes ",")) a t → optional [] (listed V (codes ",")) a t
-elements_to V a t s = elim s as (λ _. optional [] (listed V (codes ",")) a t) [ inl f ↦ inr f | inr f ↦ inl f ]
-
-elements_from : (V : Grammar Tree) (a : List Tree) (t : List ℕ) → optional [] (listed V (codes ",")) a t → either (mapped (λ _. []) empty) (listed V (codes ",")) a t
-elements_from V a t s = elim s as (λ _. either (mapped (λ _. []) empty) (listed V (codes ",")) a t) [ inl f ↦ inr f | inr f ↦ inl f ]
-
-elements_reads : (n : ℕ) (V : Grammar Tree) (r : Reader Tree) (F : Tails) → Has V → Unclosing V → HasTail F → ReadsElements n V r → Reads n (optional [] (listed V (codes ","))) (followed (word (codes "]")) F) (read_elements r)
-elements_reads n V r F has unclosing some reads bs h =
-    let bracket : Tails = followed (word (codes "]")) F in
-    let more : HasTail bracket = followed_has (word (codes "]")) F (tt, 93 ∷ [], refl) some in
-    alike_step (either (mapped (λ _. []) empty) (listed V (codes ","))) (optional [] (listed V (codes ","))) bracket bs (read_elements r bs) (elements_to V) (elements_from V)
-    (or_else_step (is 93) (mapped (λ _. []) empty) (listed V (codes ",")) bracket (found []) (made_of (λ b. b.0 ∷ b.1) (seq r (all_of (is 44) (behind (codes ",") r)))) bs
-    (starts_nothing F) (none_listed V bracket unclosing)
-    (made_of_step (λ _. []) empty bracket bs (found tt bs) (nothing_step bracket bs))
-    (listed_reads n V r bracket has more (unbegun_word (is 44) 93 [] F refl) (unbegun_word is_digit 93 [] F refl) reads bs h))
-
-has_closed : (V : Grammar Tree) → Has (closed (optional [] (listed V (codes ","))) (codes "]"))
-has_closed V = ([], 93 ∷ [], (([], tt), ([], 93 ∷ [], inr (tt, refl, refl), refl, refl), refl))
-
 pub list_reads : (n : ℕ) (V : Grammar Tree) (r : Reader Tree) (F : Tails) → Has V → Unclosing V → HasTail F → ReadsElements n V r → Reads (suc n) (list_of V) F (read_list r)
 list_reads n V r F has unclosing some reads =
-    made_of_reads (suc n) items_of (after (codes "[") (closed (optional [] (listed V (codes ","))) (codes "]"))) F (behind (codes "[") (close (read_elements r) (codes "]")))
-    (behind_reads (suc n) n (codes "[") (closed (optional [] (listed V (codes ","))) (codes "]")) F (close (read_elements r) (codes "]")) (omega arith) (has_closed V) some
-    (close_reads n (optional [] (listed V (codes ","))) (codes "]") F (read_elements r) some (elements_reads n V r F has unclosing some reads)))
+    made_of_reads (suc n) items_of (bracketed V) F (read_bracketed r) (bracketed_reads n is_digit V r F refl refl has unclosing some reads)
 
 -- a value nested at most so deep
 pub value_reads : (n : ℕ) → (depth : ℕ) → ReadsElements n (value depth) (read_nested depth)

@@ -2,4 +2,10 @@ pub mod Number
 pub mod Text
 pub mod Value
 pub mod ValueReader
+pub mod Path
+pub mod Bounds
+pub mod Func
+pub mod Matcher
+pub mod LanguageReader
+pub mod LanguageRows
 pub mod Rows

@@ -53,14 +53,14 @@ read_chars bs = folded ◌++◌ [] (length bs) begins_char read_char bs
 abbrev pub read_leaf : Reader Tree
 read_leaf = or_else (is 34) (made_of text read_text) (made_of num read_number)
 
-abbrev pub read_elements : Reader Tree → Reader (List Tree)
+abbrev pub read_elements : {A : Type 0} → Reader A → Reader (List A)
 read_elements r = or_else (is 93) (found []) (made_of (λ b. b.0 ∷ b.1) (seq r (all_of (is 44) (behind (codes ",") r))))
 
-abbrev pub snoc : List Tree → Tree → List Tree
+abbrev pub snoc : {A : Type 0} → List A → A → List A
 snoc list t = list ++ t ∷ []
 
 -- the elements behind those that there are, put to them one by one
-abbrev pub read_others : Reader Tree → List Tree → Reader (List Tree)
+abbrev pub read_others : {A : Type 0} → Reader A → List A → Reader (List A)
 read_others r list bs = folded snoc list (length bs) (is 44) (behind (codes ",") r) bs
 
 abbrev pub read_list : Reader Tree → Reader Tree
