@@ -12,3 +12,4 @@ pub mod Ahead
 pub mod Paths
 pub mod Funcs
 pub mod Matchers
+pub mod Names

@@ -3,6 +3,7 @@ pub mod Text
 pub mod Value
 pub mod ValueReader
 pub mod Path
+pub mod Name
 pub mod Bounds
 pub mod Func
 pub mod Matcher
