@@ -12,12 +12,13 @@ use Rattle.spec_syntax.specs.Number.{between}
 use Rattle.spec_syntax.specs.Text.{texts}
 use Rattle.spec_syntax.specs.Path.{path}
 use Rattle.spec_syntax.specs.Func.{counting, totalling, flat_func, adding, list_func, listing, func}
-use Rattle.spec_syntax.specs.ValueReader.{is, read_number, read_text}
+use Rattle.spec_syntax.specs.Value.{bracketed}
+use Rattle.spec_syntax.specs.ValueReader.{read_bracketed, is, read_number, read_text}
 use Rattle.spec_syntax.specs.LanguageReader.{read_path, read_counting, read_totalling, read_flat_func, read_adding, read_listing, read_func}
 use Rattle.spec_syntax.proofs.Firsts.{begun_mapped, none_mapped, none_either, none_outside}
 use Rattle.spec_syntax.proofs.Numbers.{number_reads, none_number}
 use Rattle.spec_syntax.proofs.Texts.{text_reads, begun_texts}
-use Rattle.spec_syntax.proofs.Lists.{bracketed, read_bracketed, Unclosing, ReadsAhead, bracketed_reads}
+use Rattle.spec_syntax.proofs.Lists.{Unclosing, ReadsAhead, bracketed_reads}
 use Rattle.spec_syntax.proofs.Ahead.{has_after, unbegun_after}
 use Rattle.spec_syntax.proofs.Paths.{on_path, digitless, begun_path, has_path, path_reads}
 

@@ -6,13 +6,8 @@ use Rattle.spec_grammar.proofs.Reading.{Tails, followed, Reads, Has, HasTail}
 use Rattle.spec_grammar.proofs.Sequences.{followed_has, made_of_step, made_of_reads, nothing_step, alike_step, seq_reads, behind_reads, close_reads}
 use Rattle.spec_grammar.proofs.Choices.{Starts, NoneStarts, or_else_step}
 use Rattle.spec_grammar.proofs.Repetitions.{Unbegun, begun_word, many_reads, unbegun_word, unbegun_many}
-use Rattle.spec_syntax.specs.ValueReader.{is, read_elements}
-
-abbrev pub bracketed : {A : Type 0} → Grammar A → Grammar (List A)
-bracketed V = after (codes "[") (closed (optional [] (listed V (codes ","))) (codes "]"))
-
-abbrev pub read_bracketed : {A : Type 0} → Reader A → Reader (List A)
-read_bracketed r = behind (codes "[") (close (read_elements r) (codes "]"))
+use Rattle.spec_syntax.specs.Value.{bracketed}
+use Rattle.spec_syntax.specs.ValueReader.{is, read_elements, read_bracketed}
 
 -- no element begins with a closing bracket
 abbrev pub Unclosing : {A : Type 0} → Grammar A → Type 1

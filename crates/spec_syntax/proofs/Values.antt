@@ -10,9 +10,9 @@ use Rattle.spec_grammar.proofs.Choices.{NoneStarts, or_else_step, or_else_reads}
 use Rattle.spec_grammar.proofs.Repetitions.{Begun, Unbegun, begun_word, starts_begun}
 use Rattle.spec_syntax.specs.Number.{between, is_digit, number}
 use Rattle.spec_syntax.specs.Text.{texts}
-use Rattle.spec_syntax.specs.Value.{list_of, leaf, value, any_value}
-use Rattle.spec_syntax.specs.ValueReader.{is, read_number, read_text, read_leaf, read_list, read_nested}
-use Rattle.spec_syntax.proofs.Lists.{bracketed, read_bracketed, Unclosing, ReadsAhead, bracketed_reads}
+use Rattle.spec_syntax.specs.Value.{bracketed, list_of, leaf, value, any_value}
+use Rattle.spec_syntax.specs.ValueReader.{read_bracketed, is, read_number, read_text, read_leaf, read_list, read_nested}
+use Rattle.spec_syntax.proofs.Lists.{Unclosing, ReadsAhead, bracketed_reads}
 use Rattle.spec_syntax.proofs.Firsts.{begun_mapped, none_mapped, none_either, none_outside}
 use Rattle.spec_syntax.proofs.Numbers.{number_reads, none_number}
 use Rattle.spec_syntax.proofs.Texts.{text_reads, begun_texts}

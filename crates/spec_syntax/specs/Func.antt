@@ -1,9 +1,10 @@
 -- The grammar of functions.
 use Rattle.std.specs.Prelude.{ℕ, zero, suc, List, [], codes}
-use Rattle.spec_grammar.specs.Grammar.{Grammar, mapped, either, optional, after, closed, apart, listed}
+use Rattle.spec_grammar.specs.Grammar.{Grammar, mapped, either, after, closed, apart}
 use Rattle.spec_lang.specs.Func.{Func, at_path, number, bytes, count, total, sum, list, funcs}
 use Rattle.spec_syntax.specs.Number as numbers
 use Rattle.spec_syntax.specs.Text.{texts}
+use Rattle.spec_syntax.specs.Value.{bracketed}
 use Rattle.spec_syntax.specs.Path.{path}
 
 -- "count(" path ")"
@@ -27,7 +28,7 @@ list_func fs = list (funcs fs)
 
 -- "[" [func {"," func}] "]"
 abbrev pub listing : Grammar Func → Grammar Func
-listing V = mapped list_func (after (codes "[") (closed (optional [] (listed V (codes ","))) (codes "]")))
+listing V = mapped list_func (bracketed V)
 
 -- func = path | number | text | count | sum | add | list, the last two nested at most so deep
 unfoldable pub func : ℕ → Grammar Func

@@ -12,7 +12,7 @@ use Rattle.spec_syntax.specs.Path.{upward, downward}
 use Rattle.spec_syntax.specs.Bounds.{bounds_words}
 use Rattle.spec_syntax.specs.Func.{list_func}
 use Rattle.spec_syntax.specs.Matcher.{Joint, chained, joint_words, test_words, Form, ready, negated, enclosed, flat_words, unit_words}
-use Rattle.spec_syntax.specs.ValueReader.{is, read_natural, read_number, read_text, read_elements, read_nested}
+use Rattle.spec_syntax.specs.ValueReader.{is, read_natural, read_number, read_text, read_bracketed, read_nested}
 
 abbrev pub read_index : Reader ℕ
 read_index = read_natural 65535
@@ -55,7 +55,7 @@ abbrev pub read_adding : Reader Func → Reader Func
 read_adding r = made_of (λ ab. sum ab.0 ab.1) (behind (codes "add(") (close (sep r (codes ",") r) (codes ")")))
 
 abbrev pub read_listing : Reader Func → Reader Func
-read_listing r = made_of list_func (behind (codes "[") (close (read_elements r) (codes "]")))
+read_listing r = made_of list_func (read_bracketed r)
 
 -- a function nested at most so deep
 unfoldable pub read_func : ℕ → Reader Func

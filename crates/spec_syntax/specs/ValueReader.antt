@@ -63,8 +63,11 @@ snoc list t = list ++ t ∷ []
 abbrev pub read_others : {A : Type 0} → Reader A → List A → Reader (List A)
 read_others r list bs = folded snoc list (length bs) (is 44) (behind (codes ",") r) bs
 
+abbrev pub read_bracketed : {A : Type 0} → Reader A → Reader (List A)
+read_bracketed r = behind (codes "[") (close (read_elements r) (codes "]"))
+
 abbrev pub read_list : Reader Tree → Reader Tree
-read_list r = made_of items_of (behind (codes "[") (close (read_elements r) (codes "]")))
+read_list r = made_of items_of (read_bracketed r)
 
 -- a value nested at most so deep
 unfoldable pub read_nested : ℕ → Reader Tree
