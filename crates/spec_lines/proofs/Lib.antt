@@ -1,0 +1,3 @@
+pub mod Apart
+pub mod Composites
+pub mod Lines

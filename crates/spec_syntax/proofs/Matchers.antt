@@ -130,3 +130,6 @@ on_matcher b = is 32 b || is_digit b
 
 pub matcher_reads : (n : ℕ) (F : Tails) → HasTail F → Unbegun (is 32) F → Unbegun is_digit F → Reads n matcher F read_matcher
 matcher_reads n F some spaceless un = chain_reads n (unit 8) (read_unit 8) F (has_unit 8) some spaceless un (unit_reads n 8)
+
+pub has_matcher : Has matcher
+has_matcher = has_chain (unit 8) (has_unit 8)

@@ -85,6 +85,14 @@ name_parts b m h =
     up_to : leb (length m) 31 ≡ true → length m ≤ 31
     up_to e = grind (arith, nat_tests)
 
+lower_byte : (b : ℕ) → is_lower b ≡ true → is_name_byte b ≡ true
+lower_byte b h = grind (arith, nat_tests)
+
+-- a name has bytes of names alone
+pub name_bytes : (m : List ℕ) → is_name m ≡ true → list_all is_name_byte m ≡ true
+name_bytes [] h = refl
+name_bytes (b ∷ m) h = let parts = name_parts b m h in ap (λ x. x && list_all is_name_byte m) (lower_byte b parts.0) ∙ parts.1
+
 name_of : (b : ℕ) (m : List ℕ) → IsNamed b m → is_name (b ∷ m) ≡ true
 name_of b m p =
     ap (λ x. x && list_all is_name_byte m && leb (length m) 31 && not (bytes_eq (b ∷ m) (codes "may"))) p.0

@@ -1,5 +1,5 @@
 -- The readers of paths, of orders and of bounds read their grammars.
-use Rattle.std.proofs.Common.{◌≡◌, ℕ, Bool, true, false, ◌||◌, List, [], ◌∷◌, refl, inr, arith, codes}
+use Rattle.std.proofs.Common.{◌≡◌, ℕ, Bool, true, false, ◌||◌, List, [], ◌∷◌, ◌++◌, refl, inl, inr, arith, codes}
 use Rattle.std.proofs.lemmas.Bool.{false≢true}
 use Rattle.spec_grammar.specs.Grammar.{Grammar, mapped, both, optional, after, apart, more_of, upto}
 use Rattle.spec_grammar.specs.Reader.{made_of, seq, behind, sep, repeated, maybe}
@@ -85,11 +85,14 @@ commaless F un = unbegun_less on_order (is 44) F (λ b h. or_first (is 44 b) (on
 abbrev one_key : Grammar Key
 one_key = after (codes ", ") key
 
-has_key : Has key
+abbrev has_key : Has key
 has_key = (upward [], 46 ∷ [], inr ([], has_path.2, refl))
 
 keys_reads : (n k : ℕ) (F : Tails) → HasTail F → Unbegun on_path F → Reads n key (followed (upto k one_key) F) read_key
 keys_reads n k F some un = key_reads n (followed (upto k one_key) F) (has_upto k one_key F some) (unbegun_upto on_path 44 (32 ∷ []) key k F refl un)
+
+pub has_order : Has order
+has_order = (upward [] ∷ [], 46 ∷ [], ((upward [], []), (46 ∷ [], [], has_key.2, refl, refl), refl))
 
 pub order_reads : (n : ℕ) → ReadsAhead n on_order order read_order
 order_reads n F some un =
@@ -115,3 +118,6 @@ pub bounds_reads : (n : ℕ) → ReadsAhead n is_digit bounds read_bounds
 bounds_reads n F some un =
     table_reads n two_numbers read_two_numbers F some has_two (two_reads n F some un) (codes "head ", Head) ((codes "tail ", Tail) ∷ (codes "middle ", Middle) ∷ [])
     ((refl, (refl, tt)), ((refl, tt), (tt, tt)))
+
+pub has_bounds : Has bounds
+has_bounds = let some : Has (two_numbers Head) = has_two Head in (some.0, codes "head " ++ some.1, inl ((tt, some.0), (codes "head ", some.1, refl, some.2, refl), refl))
