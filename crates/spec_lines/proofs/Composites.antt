@@ -1,20 +1,19 @@
 -- The reader of a composite's members reads its grammar.
-use Rattle.std.proofs.Common.{◌≡◌, ◌⊎◌, ℕ, zero, suc, ◌+◌, ◌<◌, ◌≤◌, min, Bool, true, false, ◌&&◌, cond, List, [], ◌∷◌, ◌++◌, length, refl, sym, ap, ◌∙◌, subst, inl, inr, arith, append_assoc, append-nil, length-append, codes}
+use Rattle.std.proofs.Common.{◌≡◌, ◌⊎◌, ℕ, zero, suc, ◌<◌, ◌≤◌, min, Bool, true, false, ◌&&◌, cond, List, [], ◌∷◌, ◌++◌, length, refl, sym, ap, ◌∙◌, subst, inl, inr, arith, append_assoc, length-append, codes}
 use Rattle.std.specs.List.{list_all}
 use Rattle.std.proofs.lemmas.Bool.{cases_eq, cases_Bool, cases_lt, false≢true}
 use Rattle.std.proofs.lemmas.Bool.Decides.{nat_tests}
 use Rattle.spec_value.specs.Name.{is_name, is_name_byte}
 use Rattle.spec_grammar.specs.Grammar.{Grammar, empty, mapped, both, either, after, optional, many, listed}
-use Rattle.spec_grammar.specs.Reader.{Step, found, stopped, first_is, made, on, seq, made_of, all_of, behind, nearer}
+use Rattle.spec_grammar.specs.Reader.{Step, found, stopped, first_is, made, seq, all_of, behind, nearer}
 use Rattle.spec_grammar.proofs.Missed.{missed, missed-same, missed-other, missed-front, missed_all, missed_all', missed_most}
 use Rattle.spec_grammar.proofs.Reading.{Tails, no_more, followed, Finds, Stops, IsStep, Reads, Has, HasTail}
-use Rattle.spec_grammar.proofs.Sequences.{rest_le, missed_text, followed_has, made_step, seq_step, made_of_step, made_of_reads, seq_reads, behind_reads, alike_step}
+use Rattle.spec_grammar.proofs.Sequences.{rest_le, made_step, seq_step, made_of_step, made_of_reads, seq_reads, behind_reads, alike_step}
 use Rattle.spec_grammar.proofs.Repetitions.{Begun, Unbegun, first_is-append, first_other, begun_word, many_reads}
 use Rattle.spec_syntax.specs.Name.{name, read_name}
 use Rattle.spec_syntax.specs.ValueReader.{is}
 use Rattle.spec_syntax.proofs.Names.{name_reads, has_name, name_bytes}
-use Rattle.spec_syntax.proofs.Lists.{ReadsAhead}
-use Rattle.spec_syntax.proofs.Ahead.{has_many, unbegun_after, unbegun_many_of}
+use Rattle.spec_syntax.proofs.Ahead.{has_many, unbegun_many_of}
 use Rattle.spec_lines.specs.Line.{members, may_part, composite_part}
 use Rattle.spec_lines.specs.Reader.{read_names, read_may, member_or_may, read_composite}
 

@@ -2,10 +2,8 @@
 use Rattle.std.proofs.Common.{◌≡◌, ℕ, ◌+◌, ◌<◌, Bool, true, false, List, [], ◌∷◌, ◌++◌, length, refl, sym, ap, ◌∙◌, inl, inr, arith, codes}
 use Rattle.std.proofs.lemmas.Bool.Decides.{nat_tests}
 use Rattle.spec_value.specs.Name.{is_name_byte}
-use Rattle.spec_value.specs.Tree.{Tree}
 use Rattle.spec_grammar.specs.Grammar.{Grammar, empty, word, both, mapped, optional, after, apart, listed, words, AreApart}
-use Rattle.spec_grammar.specs.Language.{Spell}
-use Rattle.spec_grammar.specs.Reader.{Reader, first_is, Verdict, read, fault, whole, nothing, read_word, made_of, seq, sep, maybe, table}
+use Rattle.spec_grammar.specs.Reader.{Reader, first_is, Verdict, read, fault, whole, nothing, read_word, seq, sep, maybe, table}
 use Rattle.spec_grammar.proofs.Reading.{Tails, no_more, followed, Reads, Has, HasTail}
 use Rattle.spec_grammar.proofs.Sequences.{followed_has, made_of_reads, nothing_step, seq_reads, sep_reads, word_reads}
 use Rattle.spec_grammar.proofs.Repetitions.{Begun, Unbegun, first_is-append, first_other, maybe_reads}

@@ -1,3 +1,4 @@
 pub mod Line
+pub mod Spelled
 pub mod Reader
 pub mod Rows

@@ -1,14 +1,14 @@
 -- The reader of names reads its grammar.
-use Rattle.std.proofs.Common.{◌≡◌, ◌⊎◌, ℕ, zero, suc, ◌+◌, ◌<◌, ◌≤◌, Bool, true, false, ◌&&◌, not, cond, leb, List, [], ◌∷◌, ◌++◌, length, refl, sym, ap, ◌∙◌, subst, inl, inr, arith, IsTrue, codes}
+use Rattle.std.proofs.Common.{◌≡◌, ◌⊎◌, ℕ, zero, suc, ◌+◌, ◌<◌, ◌≤◌, Bool, true, false, ◌&&◌, not, cond, leb, List, [], ◌∷◌, ◌++◌, length, refl, sym, ap, ◌∙◌, subst, inl, inr, arith, codes}
 use Rattle.std.specs.Prelude.{bytes_eq}
 use Rattle.std.specs.List.{list_all}
 use Rattle.std.proofs.lemmas.Bool.{cases_eq, cases_Bool, false≢true}
 use Rattle.std.proofs.lemmas.Bool.Decides.{nat_tests}
 use Rattle.std.proofs.lemmas.Slice.Eq.{bytes_eq-Decides}
 use Rattle.spec_value.specs.Name.{is_lower, is_name_byte, is_name}
-use Rattle.spec_grammar.specs.Reader.{Step, found, stopped, first_is}
+use Rattle.spec_grammar.specs.Reader.{found, stopped, first_is}
 use Rattle.spec_grammar.proofs.Missed.{missed, missed-same, missed-other, missed-front, missed_all, missed_all', missed_most}
-use Rattle.spec_grammar.proofs.Reading.{Tails, Finds, Stops, IsStep, Has, HasTail}
+use Rattle.spec_grammar.proofs.Reading.{Tails, Stops, IsStep, Has, HasTail}
 use Rattle.spec_grammar.proofs.Repetitions.{Begun, Unbegun}
 use Rattle.spec_syntax.specs.Name.{name, named, unnamed, read_name}
 use Rattle.spec_syntax.proofs.Lists.{ReadsAhead}

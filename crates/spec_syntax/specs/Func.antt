@@ -1,5 +1,5 @@
 -- The grammar of functions.
-use Rattle.std.specs.Prelude.{ℕ, zero, suc, List, [], codes}
+use Rattle.std.specs.Prelude.{ℕ, zero, suc, List, codes}
 use Rattle.spec_grammar.specs.Grammar.{Grammar, mapped, either, after, closed, apart}
 use Rattle.spec_lang.specs.Func.{Func, at_path, number, bytes, count, total, sum, list, funcs}
 use Rattle.spec_syntax.specs.Number as numbers
