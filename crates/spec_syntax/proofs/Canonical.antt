@@ -14,7 +14,7 @@ use Rattle.spec_syntax.specs.Value.{list_of, leaf, value, any_value}
 use Rattle.spec_syntax.proofs.Spellings.{number_is}
 
 -- the spelling of bytes
-abbrev spelled : List ℕ → List ℕ
+abbrev pub spelled : List ℕ → List ℕ
 spelled bytes = flat_map spelled_byte bytes
 
 high_byte : (b : ℕ) → 128 ≤ b → spelled_byte b ≡ b ∷ []
@@ -53,7 +53,7 @@ high_behind b =
     (high_either (eqb b 240) _ _ (omega arith, (omega arith, (omega arith, tt)))
     (high_either (eqb b 244) _ _ (omega arith, (omega arith, (omega arith, tt))) (omega arith, (omega arith, (omega arith, tt)))))))))
 
-plain_is : (bs t : List ℕ) → plain bs t → t ≡ spelled bs
+pub plain_is : (bs t : List ℕ) → plain bs t → t ≡ spelled bs
 plain_is bs t s =
     two_parts s.0.0 s.0.1 bs t (s.0.0 ∷ []) s.1.1 s.2 (lead_byte s.0.0 s.1.0) (continued_is (behind_lead s.0.0) (high_behind s.0.0) s.0.1 s.1.1 s.1.2) s.1.3
 
@@ -72,7 +72,7 @@ and_left false b h = absurd (false≢true h)
 not_short : (c d : ℕ) → between 48 49 c ≡ true → second_hex c d ≡ true → (hex_value c * 16 + hex_value d ≡ 10 → ⊥) × (hex_value c * 16 + hex_value d ≡ 9 → ⊥)
 not_short c d h g = (λ e. grind (arith, nat_tests), λ e. grind (arith, nat_tests))
 
-control_byte : (n : ℕ) → n < 32 → (n ≡ 10 → ⊥) → (n ≡ 9 → ⊥) → spelled_byte n ≡ codes "\\x" ++ hex_digit (n / 16) ∷ hex_digit (n % 16) ∷ []
+pub control_byte : (n : ℕ) → n < 32 → (n ≡ 10 → ⊥) → (n ≡ 9 → ⊥) → spelled_byte n ≡ codes "\\x" ++ hex_digit (n / 16) ∷ hex_digit (n % 16) ∷ []
 control_byte n l f g = grind (arith, nat_tests)
 
 hex_byte_is : (n : ℕ) (t : List ℕ) → hex_byte n t → spelled_byte n ≡ 92 ∷ 120 ∷ t

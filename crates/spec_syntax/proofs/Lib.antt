@@ -13,3 +13,4 @@ pub mod Paths
 pub mod Funcs
 pub mod Matchers
 pub mod Names
+pub mod Spelled

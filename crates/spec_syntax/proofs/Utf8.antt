@@ -15,18 +15,18 @@ use Rattle.spec_syntax.specs.ValueReader.{read_chars, read_text}
 use Rattle.spec_syntax.proofs.Texts.{text_reads}
 use Rattle.spec_syntax.proofs.Enclosed.{text_found}
 
-one : (c : ℕ) → c < 128 → encode c ≡ c ∷ []
+pub one : (c : ℕ) → c < 128 → encode c ≡ c ∷ []
 unfolding encode
 one c h = grind (arith, nat_tests)
 
-two : (q r : ℕ) → 2 ≤ q → q < 32 → r < 64 → encode (q * 64 + r) ≡ (192 + q) ∷ (128 + r) ∷ []
+pub two : (q r : ℕ) → 2 ≤ q → q < 32 → r < 64 → encode (q * 64 + r) ≡ (192 + q) ∷ (128 + r) ∷ []
 unfolding encode
 two q r l h g =
     let d : (q * 64 + r) / 64 ≡ q = omega arith in
     let m : (q * 64 + r) % 64 ≡ r = omega arith in
     grind (arith, nat_tests)
 
-three : (p q r : ℕ) → p < 16 → q < 64 → r < 64 → 2048 ≤ (p * 64 + q) * 64 + r → encode ((p * 64 + q) * 64 + r) ≡ (224 + p) ∷ (128 + q) ∷ (128 + r) ∷ []
+pub three : (p q r : ℕ) → p < 16 → q < 64 → r < 64 → 2048 ≤ (p * 64 + q) * 64 + r → encode ((p * 64 + q) * 64 + r) ≡ (224 + p) ∷ (128 + q) ∷ (128 + r) ∷ []
 unfolding encode
 three p q r h g k l =
     let a : ((p * 64 + q) * 64 + r) / 4096 ≡ p = omega arith in
@@ -35,7 +35,7 @@ three p q r h g k l =
     let d : ((p * 64 + q) * 64 + r) % 64 ≡ r = omega arith in
     grind (arith, nat_tests)
 
-four : (o p q r : ℕ) → o < 5 → p < 64 → q < 64 → r < 64 → 65536 ≤ ((o * 64 + p) * 64 + q) * 64 + r → encode (((o * 64 + p) * 64 + q) * 64 + r) ≡ (240 + o) ∷ (128 + p) ∷ (128 + q) ∷ (128 + r) ∷ []
+pub four : (o p q r : ℕ) → o < 5 → p < 64 → q < 64 → r < 64 → 65536 ≤ ((o * 64 + p) * 64 + q) * 64 + r → encode (((o * 64 + p) * 64 + q) * 64 + r) ≡ (240 + o) ∷ (128 + p) ∷ (128 + q) ∷ (128 + r) ∷ []
 unfolding encode
 four o p q r n h g k l =
     let a : (((o * 64 + p) * 64 + q) * 64 + r) / 262144 ≡ o = omega arith in

@@ -7,6 +7,7 @@ pub mod Name
 pub mod Bounds
 pub mod Func
 pub mod Matcher
+pub mod Proper
 pub mod Spelled
 pub mod LanguageReader
 pub mod LanguageRows
