@@ -3,6 +3,10 @@
 ghost use Rattle.std.specs.Prelude.{◌≡◌, ◌++◌, ◌<◌, decimal, OnOk, OnErr};
 ghost use Rattle.std.specs.Fmt.{signed_decimal};
 ghost use Rattle.spec_texts.specs.Value.{hex_digit as hex_digit_of, spelled_byte, spelled_value, spelled_list};
+ghost use Rattle.spec_value.specs.Tree.{trees};
+ghost use Rattle.spec_grammar.specs.Language.{Spell};
+ghost use Rattle.spec_syntax.specs.Value.{any_value};
+ghost use Rattle.spec_syntax.specs.Proper.{IsProper, AreProper};
 ghost use Rattle.gl_syntax.specs.Elements.{comma_before, spelled_text};
 
 use gl_value::{Bytes, Memory, Value, ValueShape};
@@ -10,9 +14,11 @@ use itoa::Buffer;
 use std::alloc::Global;
 
 /// Adds the value in its one spelling; where memory runs out the bytes are as before. It takes memory for the spelling
-/// beside them while it writes, and recurses once a level of nesting.
+/// beside them while it writes, and recurses once a level of nesting. What is added reads back as the value.
+#[tactic(auto, using(spec_syntax::proofs::Spelled::reads_back))]
 pub fn write_value(alloc: Global, value: &Value, out: &mut Bytes) -> Result<(), Memory>
     ensures ok { OnOk result (out.new ≡ out.old ++ spelled_value value.now) }
+    ensures back { OnOk result (Spell any_value (spelled_value value.now) value.now) }
     ensures err { OnErr result (out.new ≡ out.old) }
 {
     let mut text = Bytes::new(alloc);
@@ -24,7 +30,8 @@ pub fn write_value(alloc: Global, value: &Value, out: &mut Bytes) -> Result<(), 
 /// memory runs out part of it may be added.
 #[cycle(value)]
 pub fn add_value(value: &Value, out: &mut Bytes) -> Result<(), Memory>
-    ensures { OnOk result (out.new ≡ out.old ++ spelled_value value.now) }
+    ensures value { OnOk result (out.new ≡ out.old ++ spelled_value value.now) }
+    ensures proper { OnOk result (IsProper value.now) }
 {
     match value.shape() {
         ValueShape::Num(n) => add_signed(n, out),
@@ -35,7 +42,8 @@ pub fn add_value(value: &Value, out: &mut Bytes) -> Result<(), Memory>
 
 #[cycle(value)]
 fn add_values(values: &[Value], out: &mut Bytes) -> Result<(), Memory>
-    ensures { OnOk result (out.new ≡ out.old ++ spelled_list values.now) }
+    ensures value { OnOk result (out.new ≡ out.old ++ spelled_list values.now) }
+    ensures proper { OnOk result (AreProper (trees values.now)) }
 {
     out.push_all(b"[")?;
     for (place, value) in values.iter().enumerate() {

@@ -14,3 +14,4 @@ pub mod Funcs
 pub mod Matchers
 pub mod Names
 pub mod Spelled
+pub mod Within

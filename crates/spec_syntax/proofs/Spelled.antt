@@ -1,21 +1,26 @@
 -- The spelling of a value is spelled: the grammar has it.
-use Rattle.std.proofs.Common.{◌≡◌, ◌⊎◌, ℕ, zero, suc, ℤ, pos, negsuc, ◌+◌, ◌-◌, ◌*◌, ◌/◌, ◌%◌, ◌^◌, ◌<◌, ◌≤◌, max, Bool, true, false, ◌&&◌, ◌||◌, not, cond, eqb, leb, List, [], ◌∷◌, ◌++◌, refl, sym, ap, ◌∙◌, subst, inl, inr, arith, append_assoc, append-nil, codes}
-use Rattle.std.specs.Prelude.{decimal, flat_map, IsUtf8, FitsSigned}
+use Rattle.std.proofs.Common.{◌≡◌, ◌⊎◌, ℕ, zero, suc, ℤ, pos, negsuc, ◌+◌, ◌-◌, ◌*◌, ◌/◌, ◌%◌, ◌^◌, ◌<◌, ◌≤◌, Bool, true, false, ◌&&◌, List, [], ◌∷◌, ◌++◌, length, take, get_or, refl, sym, ap, ◌∙◌, subst, inl, inr, arith, append-nil, codes}
+use Rattle.std.specs.Prelude.{decimal, IsUtf8, FitsSigned}
 use Rattle.std.specs.Int.{w64}
 use Rattle.std.specs.Fmt.{signed_decimal}
 use Rattle.std.proofs.lemmas.Bool.{cases_eq, cases_Bool, cases_lt, false≢true}
 use Rattle.std.proofs.lemmas.Bool.Decides.{nat_tests}
 use Rattle.std.proofs.lemmas.Fmt.{decimal_digit, decimal_step}
 use Rattle.std.proofs.lemmas.Grind.{flat_map-append}
-use Rattle.spec_value.specs.Tree.{Tree, num, text, items, Trees, none, more, items_of, trees, list, nesting, trees_nesting, trees-list}
-use Rattle.spec_grammar.specs.Grammar.{Grammar, mapped, either, optional, after, closed, many, listed}
+use Rattle.spec_value.specs.Tree.{Tree, num, text, items, Trees, none, more, trees, list, nesting, trees_nesting, trees-list}
+use Rattle.spec_grammar.specs.Grammar.{optional, after, many, listed}
 use Rattle.spec_texts.specs.Value.{hex_digit, spelled_byte, spelled_value, spelled_elements, spelled_others}
 use Rattle.spec_syntax.specs.Number.{between, is_digit, longer, positive, natural, number}
-use Rattle.spec_syntax.specs.Text.{continued, is_lead, behind_lead, plain, is_hex, hex_value, second_hex, hex_byte, is_short, escape, char, joined, texts}
-use Rattle.spec_syntax.specs.Value.{bracketed, list_of, leaf, value, any_value}
+use Rattle.spec_syntax.specs.Text.{continued, is_lead, behind_lead, plain, is_hex, hex_value, second_hex, hex_byte, escape, char, joined, texts}
+use Rattle.spec_syntax.specs.Value.{list_of, leaf, value, any_value}
 use Rattle.spec_syntax.specs.Proper.{IsProper, AreProper}
 use Rattle.spec_syntax.proofs.Canonical.{spelled, plain_is, control_byte}
 use Rattle.spec_syntax.proofs.Utf8.{one, two, three, four}
+use Rattle.spec_grammar.specs.Language.{Spell}
+use Rattle.spec_grammar.specs.Reader.{Verdict, read, fault, whole}
+use Rattle.spec_grammar.proofs.Wholes.{IsVerdict}
+use Rattle.spec_syntax.specs.ValueReader.{read_nested}
+use Rattle.spec_syntax.proofs.Verdicts.{value_verdict}
 use lib.Utf8.{scalar, scalars, encode, encodes}
 
 -- one digit more at the end
@@ -299,3 +304,27 @@ value_spelled t h depth l = value_at t h depth l
 
 pub any_spelled : (t : Tree) → IsProper t → any_value t (spelled_value t)
 any_spelled t h = (nesting t, value_at t h (nesting t) (omega arith))
+
+one_of : (bs : List ℕ) (verdict : Verdict Tree) → IsVerdict any_value bs verdict → (a b : Tree) → any_value a bs → any_value b bs → a ≡ b
+one_of bs (read c) v a b s t = v.alone a s ∙ sym (v.alone b t)
+one_of bs (fault left) v a b s t = absurd (v.0 a s)
+
+-- a value's spelling spells it, and nothing else
+pub reads_back : (t : Tree) → IsProper t → Spell any_value (spelled_value t) t
+reads_back t h =
+    let s : any_value t (spelled_value t) = any_spelled t h in
+    record { spelled = s; alone = λ b r. one_of (spelled_value t) (whole (read_nested (length (spelled_value t)) (spelled_value t))) (value_verdict (spelled_value t)) b t r s }
+
+-- one value more
+proper_here : (t u : Tree) → u ≡ t → IsProper u → IsProper t
+proper_here t u e h = subst IsProper e h
+
+pub proper_more : (ts : List Tree) (k : ℕ) (t : Tree) → k < length ts → t ≡ get_or ts k t → AreProper (trees (take k ts)) → IsProper t → AreProper (trees (take (suc k) ts))
+proper_more [] k t l e h p = absurd (omega arith)
+proper_more (u ∷ ts) zero t l e h p = (proper_here u t e p, tt)
+proper_more (u ∷ ts) (suc k) t l e h p = (h.0, proper_more ts k t (omega arith) e h.1 p)
+
+pub proper_all : (ts : List Tree) (k : ℕ) → length ts ≤ k → AreProper (trees (take k ts)) → AreProper (trees ts)
+proper_all [] k l h = tt
+proper_all (t ∷ ts) zero l h = absurd (omega arith)
+proper_all (t ∷ ts) (suc k) l h = (h.0, proper_all ts k (omega arith) h.1)

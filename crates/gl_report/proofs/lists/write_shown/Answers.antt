@@ -17,7 +17,7 @@ pub loop-place-preserved : goal.loop-place-preserved
 loop-place-preserved g c =
     let values = shown_after c.args.world.now.plan c.args.world.now.order c.args.list in
     let there : slice_get values c.loop-place.place ≡ Some c.unwrap-value.result.now = sym c.shown.ensures.value ∙ ap option_copied c.unwrap-value.ensures in
-    rw (c.in_ok-add_value.ensures, c.in_ok-add_comma.ensures) (element_more c.loop-place.out _ values c.loop-place.place c.unwrap-value.result.now there c.loop-place.invariant)
+    rw (c.in_ok-add_value.ensures.value, c.in_ok-add_comma.ensures) (element_more c.loop-place.out _ values c.loop-place.place c.unwrap-value.result.now there c.loop-place.invariant)
 
 pub returns : goal.returns
 returns g c =

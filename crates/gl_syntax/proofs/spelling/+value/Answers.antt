@@ -1,8 +1,12 @@
-use Rattle.std.proofs.Common.{◌+◌, ◌<◌, ◌≤◌, ◌++◌, length, arith, ap, ◌∙◌}
+use Rattle.std.proofs.Common.{◌≡◌, suc, take, subst, sym, ◌+◌, ◌<◌, ◌≤◌, ◌++◌, length, arith, ap, ◌∙◌}
 use Rattle.std.proofs.lemmas.Result.{IfOk-equal}
 use Rattle.spec_value.specs.Tree.{tree_size, trees, trees_size}
+use Rattle.std.specs.Prelude.{Result, Ok, Err, OnOk, Some, slice_get}
+use Rattle.std.proofs.lemmas.Option.{slice_get-get_or}
+use Rattle.spec_syntax.specs.Proper.{AreProper}
+use Rattle.spec_syntax.proofs.Spelled.{proper_all, proper_more}
 use Rattle.gl_syntax.specs.Elements.{elements_from}
-use Rattle.gl_syntax.proofs.Elements.{tree_size-at, closed}
+use Rattle.gl_syntax.proofs.Elements.{tree_size-at, closed, element_more}
 use Rattle.gl_syntax.proofs.spelling.+value.Goals as goal
 
 -- an element is smaller than its list
@@ -12,7 +16,27 @@ add_values-add_value-requires t c =
     let smaller : tree_size c.index-values-place.result + 1 ≤ trees_size (trees c.args.values.now) = tree_size-at c.args.values.now c.loop-place.place c.index-values-place.result within c.index-values-place.is in
     (omega arith, tt)
 
-pub add_values-returns : goal.add_values-returns
-add_values-returns t c =
+pub add_values-returns-clause-value : goal.add_values-returns-clause-value
+add_values-returns-clause-value t c =
     let opened = ap (λ l. l ++ elements_from 0 c.args.values.now) (c.in_ok-push_all.ensures.ok) in
-    IfOk-equal c.push_all-2.result _ _ _ c.push_all-2.ensures.ok (closed c.args.out.now c.loop-place.out c.args.values.now c.loop-place.place c.loop-place-test.false (c.loop-place.invariant ∙ opened))
+    IfOk-equal c.push_all-2.result _ _ _ c.push_all-2.ensures.ok (closed c.args.out.now c.loop-place.out c.args.values.now c.loop-place.place c.loop-place-test.false (c.loop-place.invariant.0 ∙ opened))
+
+on_ok : {X E : Type 0} (P : Type 0) (r : Result X E) → P → OnOk r P
+on_ok P (Ok x) p = p
+on_ok P (Err e) p = tt
+
+pub add_values-returns-clause-proper : goal.add_values-returns-clause-proper
+add_values-returns-clause-proper t c =
+    on_ok (AreProper (trees c.args.values.now)) c.push_all-2.result (proper_all c.args.values.now c.loop-place.place c.loop-place-test.false c.loop-place.invariant.1)
+
+pub add_values-loop-place-preserved : goal.add_values-loop-place-preserved
+add_values-loop-place-preserved t c =
+    let values = c.args.values.now in
+    let place = c.loop-place.place in
+    let element = c.index-values-place.result in
+    let within : place < length values = omega arith in
+    let there : slice_get values place ≡ Some element = slice_get-get_or values place element within ∙ ap Some (sym c.index-values-place.is) in
+    let next : suc place ≡ place + 1 = omega arith in (
+      rw (c.in_ok-add_value.ensures.value, c.in_ok-add_comma.ensures) (element_more c.loop-place.out _ values place element there c.loop-place.invariant.0),
+      subst (λ n. AreProper (trees (take n values))) next (proper_more values place element within c.index-values-place.is c.loop-place.invariant.1 c.in_ok-add_value.ensures.proper),
+    )

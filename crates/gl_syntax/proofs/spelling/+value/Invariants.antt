@@ -1,5 +1,6 @@
-use Rattle.std.proofs.Common.{◌≡◌, ◌+◌, ◌*◌, ◌++◌, drop}
+use Rattle.std.proofs.Common.{◌≡◌, ◌+◌, ◌*◌, ◌++◌, take, drop}
 use Rattle.spec_value.specs.Tree.{tree_size, trees, trees_size}
+use Rattle.spec_syntax.specs.Proper.{AreProper}
 use Rattle.gl_syntax.specs.Elements.{elements_from}
 use Rattle.gl_syntax.proofs.spelling.+value.Given as goal
 
@@ -9,6 +10,7 @@ decreases-add_value l = 2 * tree_size l.value.now + 1
 abbrev pub decreases-add_values : goal.decreases-add_values
 decreases-add_values l = 2 * trees_size (trees l.values.now)
 
--- what is written and what is left are the whole
+-- what is written and what is left are the whole, and what is written is proper
 abbrev pub invariant-add_values-loop-place : goal.invariant-add_values-loop-place
-invariant-add_values-loop-place l = l.out ++ elements_from l.place (drop l.place l.values) ≡ l.initial.out ++ elements_from 0 l.values
+invariant-add_values-loop-place l =
+    (l.out ++ elements_from l.place (drop l.place l.values) ≡ l.initial.out ++ elements_from 0 l.values) × AreProper (trees (take l.place l.values))
