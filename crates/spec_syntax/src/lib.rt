@@ -1,2 +1,3 @@
-//! The grammar of values, and readers of it on lists of bytes: definitions and their laws alone.
+//! The grammars of values, names, paths, orders, bounds, functions and matchers, each with its readers on lists of bytes
+//! and its one spelling: definitions and their laws alone.
 #![tactic(auto)]
