@@ -1,19 +1,24 @@
 -- What a delta keeps of its pieces, through its edits.
-use Rattle.std.proofs.Common.{◌≡◌, ◌∙◌, ℕ, zero, suc, ◌+◌, ◌-◌, ◌<◌, ◌≤◌, List, [], ◌∷◌, ◌++◌, length, refl, ap, sym, subst, arith}
+use Rattle.std.proofs.Common.{◌≡◌, ◌∙◌, ℕ, zero, suc, ◌+◌, ◌-◌, ◌<◌, ◌≤◌, List, [], ◌∷◌, ◌++◌, length, ap, sym, subst, arith}
 use Rattle.spec_value.specs.Tree.{Tree}
-use Rattle.spec_lists.specs.Piece.{Piece, old_len, new_len, normal, identity, IsNormal, BeginsUndeleted}
-use Rattle.spec_lists.specs.Delta.{composed, one_insert, one_set, one_remove}
+use Rattle.spec_lists.specs.Piece.{Piece, old_len, new_len, identity, IsNormal, BeginsUndeleted}
+use Rattle.spec_lists.specs.Delta.{one_insert, one_set, one_remove}
 use Rattle.spec_lists.specs.Cells.{pieces_in}
-use Rattle.spec_lists.proofs.Normal.{normal_is, old_len-normal, new_len-normal}
+use Rattle.spec_lists.proofs.Normal.{old_len-normal, new_len-normal}
 use Rattle.spec_lists.proofs.Changing.{old_len-append, new_len-append}
 use Rattle.spec_lists.proofs.Lengths.{old_len-composed, new_len-composed, old_len-identity, new_len-identity, old_len-one_insert, new_len-one_insert, old_len-one_set, new_len-one_set, old_len-one_remove, new_len-one_remove}
 use Rattle.gl_delta.specs.declared.cell.Cell.{Cell}
 use Rattle.gl_delta.specs.Cells.{cell_of}
 use Rattle.gl_delta.specs.Pieces.{IsKept, IsComposed, IsPushed}
-use Rattle.gl_delta.proofs.EditLemmas.{length_few, normal_undeleted}
+use Rattle.gl_delta.proofs.CutLemmas.{length_few}
+use Rattle.gl_delta.proofs.FormLemmas.{normal_undeleted}
 
-pub few_pieces : (ps : List Piece) (olds news : ℕ) → IsKept ps olds news → length ps + 1 ≤ 4294967296
+pub few_pieces : (ps : List Piece) (olds news : ℕ) → IsKept ps olds news → length ps ≤ 4294967294
 few_pieces ps olds news k = omega (arith, length_few ps, k.olds_is, k.news_is, k.olds_few, k.news_few)
+
+-- there is a piece more to come, of a list that stays within the limit
+pub few_more : (ps : List Piece) (olds news a b : ℕ) → IsKept ps olds news → old_len ps + a ≤ 2147483647 → new_len ps + b ≤ 2147483647 → 1 ≤ a + b → length ps + 1 ≤ 4294967294
+few_more ps olds news a b k f g h = omega (arith, length_few ps, f, g, h)
 
 begins_kept : (n : ℕ) → BeginsUndeleted (identity n)
 begins_kept zero = tt
@@ -77,7 +82,7 @@ kept_more ps qs olds news n k e f g =
       normal = subst N (sym e) (normal_keep ps n k.normal);
     }
 
-pub keeps_fit : (ps : List Piece) (olds news n : ℕ) → IsKept ps olds news → old_len ps + old_len (identity n) ≤ 2147483647 → new_len ps + new_len (identity n) ≤ 2147483647 → (length ps + n ≤ 4294967296) × (olds + n ≤ 2147483647) × (news + n ≤ 2147483647)
+pub keeps_fit : (ps : List Piece) (olds news n : ℕ) → IsKept ps olds news → old_len ps + old_len (identity n) ≤ 2147483647 → new_len ps + new_len (identity n) ≤ 2147483647 → (length ps + n ≤ 4294967294) × (olds + n ≤ 2147483647) × (news + n ≤ 2147483647)
 keeps_fit ps olds news n k f g =
     (omega (arith, length_few ps, old_len-identity n, new_len-identity n, f, g), omega (arith, k.olds_is, old_len-identity n, f), omega (arith, k.news_is, new_len-identity n, g))
 

@@ -1,121 +1,124 @@
--- The old side of marks, walked from the left.
-use Rattle.std.proofs.Common.{◌≡◌, ◌∙◌, ℕ, zero, suc, ◌+◌, ◌-◌, ◌<◌, ◌≤◌, List, [], ◌∷◌, ◌++◌, length, get_or, drop, replicate, Some, slice_get, refl, ap, sym, subst, arith, inl, inr}
-use Rattle.std.proofs.lemmas.List.{length-append, length-replicate, drop_more, drop_all, append-nil}
+-- What became of an old element.
+use Rattle.std.proofs.Common.{◌≡◌, ◌≢◌, ◌⊎◌, ◌∙◌, ℕ, zero, suc, ◌+◌, ◌<◌, ◌≤◌, List, [], ◌∷◌, length, take, drop, refl, ap, sym, subst, arith, inl, inr}
+use Rattle.std.specs.List.{slice_get}
+use Rattle.std.specs.Prelude.{Some, Bool, true, false, nat_lt, slice_index}
+use Rattle.std.proofs.lemmas.Bool.Decides.{nat_tests}
+use Rattle.std.proofs.lemmas.List.{take_all}
+use Rattle.std.proofs.lemmas.Option.{same_Some, slice_get_within}
 use Rattle.spec_value.specs.Tree.{Tree}
-use Rattle.spec_lists.specs.Piece.{Piece, kept, old_len}
+use Rattle.spec_lists.specs.Piece.{Piece, kept, updated, deleted, inserted, old_len, new_len}
 use Rattle.spec_lists.specs.Sides.{Item, plain, changed, lone, olds}
-use Rattle.gl_delta.specs.declared.mark.Changed.{Changed}
-use Rattle.gl_delta.specs.declared.mark.Changed.TheVariants.{Updated, Deleted, Inserted}
-use Rattle.gl_delta.specs.declared.mark.Mark.{Mark}
-use Rattle.gl_delta.specs.Marks.{piece_of, raw}
+use Rattle.gl_delta.specs.declared.mark.Side.TheVariants.{Old as OnOld}
+use Rattle.gl_delta.specs.declared.cell.Old.TheVariants.{Kept}
+use Rattle.gl_delta.specs.Old.{IsOldAt}
+use Rattle.gl_delta.specs.Marks.{IsSelected, BeginsOn}
+use Rattle.gl_delta.specs.Store.{colour_of, told_old, old_values, IsStored}
+use Rattle.gl_fourcolour.specs.Colours.{Colours, count_among}
+use Rattle.gl_delta.specs.Listed.{Listed}
+use Rattle.gl_delta.proofs.RankLemmas.{colour_at, ranked, counts_with_old, counts_new}
+use Rattle.gl_delta.proofs.StoreLemmas.{told_at, old_splits}
 
--- a kept element in front
-pub old_kept : (k : ℕ) (ps : List Piece) (j left : ℕ) → left < k → slice_get (olds j (replicate k kept ++ ps)) left ≡ Some (plain (j + left))
-old_kept zero ps j left h = absurd (omega (arith, h))
-old_kept (suc k) ps j zero h = let e : j ≡ j + 0 = omega arith in ap (λ n. Some (plain n)) e
-old_kept (suc k) ps j (suc left) h = let e : suc j + left ≡ j + suc left = omega arith in old_kept k ps (suc j) left (omega (arith, h)) ∙ ap (λ n. Some (plain n)) e
+-- an old element that stands behind j new ones
+abbrev pub item_of : ℕ → Piece → Item
+item_of j kept = plain j
+item_of j (updated v w) = changed j v
+item_of j (deleted v) = lone v
+item_of j (inserted w) = plain j
 
--- past the kept ones in front
-pub old_past : (k : ℕ) (ps : List Piece) (j left : ℕ) → k ≤ left → slice_get (olds j (replicate k kept ++ ps)) left ≡ slice_get (olds (j + k) ps) (left - k)
-old_past zero ps j left h = let e : j ≡ j + 0 = omega arith in let f : left ≡ left - 0 = omega arith in ap (λ n. slice_get (olds n ps) left) e ∙ ap (slice_get (olds (j + 0) ps)) f
-old_past (suc k) ps j zero h = absurd (omega (arith, h))
-old_past (suc k) ps j (suc left) h =
-    let e : suc j + k ≡ j + suc k = omega arith in
-    let f : left - k ≡ suc left - suc k = omega arith in
-    old_past k ps (suc j) left (omega (arith, h)) ∙ (ap (λ n. slice_get (olds n ps) (left - k)) e ∙ ap (slice_get (olds (j + suc k) ps)) f)
+same_item : (p y : Piece) (j : ℕ) → Some p ≡ Some y → Some (item_of j p) ≡ Some (item_of (j + 0) y)
+same_item p y j e = let n : j ≡ j + 0 = omega arith in ap (λ z. Some (item_of j z)) (same_Some p y e) ∙ ap (λ k. Some (item_of k y)) n
 
-pub old_len_past : (k : ℕ) (ps : List Piece) → old_len (replicate k kept ++ ps) ≡ k + old_len ps
-old_len_past zero ps = omega arith
-old_len_past (suc k) ps = omega (arith, old_len_past k ps)
+olds_at : (ps : List Piece) (at j : ℕ) (x : Piece) → slice_get ps at ≡ Some x → BeginsOn OnOld (drop at ps) → slice_get (olds j ps) (old_len (take at ps)) ≡ Some (item_of (j + new_len (take at ps)) x)
+olds_at [] at j x e on = cc
+olds_at (kept ∷ ps) zero j x e on = same_item kept x j e
+olds_at (updated v w ∷ ps) zero j x e on = same_item (updated v w) x j e
+olds_at (deleted v ∷ ps) zero j x e on = same_item (deleted v) x j e
+olds_at (inserted w ∷ ps) zero j x e on = absurd on
+olds_at (kept ∷ ps) (suc at) j x e on = let n : suc j + new_len (take at ps) ≡ j + suc (new_len (take at ps)) = omega arith in olds_at ps at (suc j) x e on ∙ ap (λ k. Some (item_of k x)) n
+olds_at (updated v w ∷ ps) (suc at) j x e on = let n : suc j + new_len (take at ps) ≡ j + suc (new_len (take at ps)) = omega arith in olds_at ps at (suc j) x e on ∙ ap (λ k. Some (item_of k x)) n
+olds_at (deleted v ∷ ps) (suc at) j x e on = olds_at ps at j x e on
+olds_at (inserted w ∷ ps) (suc at) j x e on = let n : suc j + new_len (take at ps) ≡ j + suc (new_len (take at ps)) = omega arith in olds_at ps at (suc j) x e on ∙ ap (λ k. Some (item_of k x)) n
 
--- what is left of marks, from a place on: the element sought, and how many pieces at most are left
-pub record IsLeft (ms : List Mark) (tail place news i left : ℕ) : Type 0 where
-  pub sought : slice_get (olds news (raw (drop i ms) tail)) left ≡ slice_get (olds 0 (raw ms tail)) place
-  pub within : left < old_len (raw (drop i ms) tail)
-  pub few : news + length (raw (drop i ms) tail) ≤ length (raw ms tail)
+-- an old element's piece isn't the end
+pub old_within : (ps : List Piece) (place at : ℕ) → IsSelected OnOld ps place at → place < old_len ps → at < length ps
+old_within ps place at s w = by_test (nat_lt at (length ps)) refl
+  where
+    by_test : (b : Bool) → nat_lt at (length ps) ≡ b → at < length ps
+    by_test true e = grind (arith, nat_tests)
+    by_test false e =
+        let past : length ps ≤ at = grind (arith, nat_tests) in
+        absurd (omega (arith, w, s.before, ap old_len (take_all at ps past)))
 
-pub left_here : (ms : List Mark) (tail i : ℕ) (d : Mark) → i < length ms → raw (drop i ms) tail ≡ replicate (get_or ms i d).keeps kept ++ piece_of (get_or ms i d).change ∷ raw (drop (i + 1) ms) tail
-left_here ms tail i d h = ap (λ xs. raw xs tail) (drop_more ms i d h)
+pub old_kept : (ps : List Piece) (place at j : ℕ) (x : Piece) → IsSelected OnOld ps place at → slice_get ps at ≡ Some x → colour_of x ≡ 0 → j ≡ new_len (take at ps) → IsOldAt (olds 0 ps) place (Kept j)
+old_kept ps place at j x s got e f =
+    let there = olds_at ps at 0 x got s.here in
+    ap (slice_get (olds 0 ps)) (sym s.before) ∙ (there ∙ is_plain x e)
+  where
+    is_plain : (y : Piece) → colour_of y ≡ 0 → Some (item_of (0 + new_len (take at ps)) y) ≡ Some (plain j)
+    is_plain kept g = let n : 0 + new_len (take at ps) ≡ j = omega (arith, f) in ap (λ k. Some (plain k)) n
+    is_plain (updated v w) g = absurd (omega (arith, g))
+    is_plain (deleted v) g = absurd (omega (arith, g))
+    is_plain (inserted w) g = absurd (omega (arith, g))
 
--- the element is a kept one in front of a mark
-pub found_kept : (ms : List Mark) (tail place news i left : ℕ) (m : Mark) → IsLeft ms tail place news i left → i < length ms → m ≡ get_or ms i m → left < m.keeps → slice_get (olds 0 (raw ms tail)) place ≡ Some (plain (news + left))
-found_kept ms tail place news i left m s h e w =
-    let P : Mark → Type 0 = λ x. left < x.keeps in
-    sym s.sought ∙ (ap (λ ps. slice_get (olds news ps) left) (left_here ms tail i m h) ∙ old_kept (get_or ms i m).keeps _ news left (subst P e w))
+pub old_value : (ps : List Piece) (place at : ℕ) (x : Piece) (v : Tree) → IsSelected OnOld ps place at → slice_get ps at ≡ Some x → BeginsOn OnOld (drop at ps) → told_old x ≡ v ∷ [] → (slice_get (olds 0 ps) place ≡ Some (lone v)) ⊎ ((j : ℕ) × (slice_get (olds 0 ps) place ≡ Some (changed j v)))
+old_value ps place at x v s got on e =
+    let there = olds_at ps at 0 x got on in
+    is_told x e (ap (slice_get (olds 0 ps)) (sym s.before) ∙ there)
+  where
+    is_told : (y : Piece) → told_old y ≡ v ∷ [] → slice_get (olds 0 ps) place ≡ Some (item_of (0 + new_len (take at ps)) y) → (slice_get (olds 0 ps) place ≡ Some (lone v)) ⊎ ((j : ℕ) × (slice_get (olds 0 ps) place ≡ Some (changed j v)))
+    is_told kept g h = cc
+    is_told (updated x w) g h = let same : x ≡ v = cc in inr (0 + new_len (take at ps), h ∙ ap (λ y. Some (changed (0 + new_len (take at ps)) y)) same)
+    is_told (deleted x) g h = let same : x ≡ v = cc in inl (h ∙ ap (λ y. Some (lone y)) same)
+    is_told (inserted w) g h = cc
 
--- past the kept ones in front of a mark
-pub left_at : (ms : List Mark) (tail place news i left : ℕ) (m : Mark) → IsLeft ms tail place news i left → i < length ms → m ≡ get_or ms i m → m.keeps ≤ left → slice_get (olds (news + m.keeps) (piece_of m.change ∷ raw (drop (i + 1) ms) tail)) (left - m.keeps) ≡ slice_get (olds 0 (raw ms tail)) place
-left_at ms tail place news i left m s h e w =
-    let here : raw (drop i ms) tail ≡ replicate m.keeps kept ++ piece_of m.change ∷ raw (drop (i + 1) ms) tail = left_here ms tail i m h ∙ ap (λ (x : Mark). replicate x.keeps kept ++ piece_of x.change ∷ raw (drop (i + 1) ms) tail) (sym e) in
-    sym (old_past m.keeps (piece_of m.change ∷ raw (drop (i + 1) ms) tail) news left w) ∙ (ap (λ ps. slice_get (olds news ps) left) (sym here) ∙ s.sought)
+-- an old element that isn't kept tells its old value
+pub tells_old : (ps : List Piece) (place at : ℕ) (x : Piece) → IsSelected OnOld ps place at → slice_get ps at ≡ Some x → colour_of x ≢ 0 → (v : Tree) × (told_old x ≡ v ∷ [])
+tells_old ps place at x s got e = by_piece x e (on_old ps at x got s.here)
+  where
+    on_old : (qs : List Piece) (i : ℕ) (y : Piece) → slice_get qs i ≡ Some y → BeginsOn OnOld (drop i qs) → BeginsOn OnOld (y ∷ [])
+    on_old [] i y g h = cc
+    on_old (q ∷ qs) zero y g h = let same : q ≡ y = same_Some q y g in let P : Piece → Type 0 = λ z. BeginsOn OnOld (z ∷ []) in subst P same (one q h)
+      where
+        one : (z : Piece) → BeginsOn OnOld (z ∷ qs) → BeginsOn OnOld (z ∷ [])
+        one kept k = tt
+        one (updated v w) k = tt
+        one (deleted v) k = tt
+        one (inserted w) k = k
+    on_old (q ∷ qs) (suc i) y g h = on_old qs i y g h
 
-pub sizes_at : (ms : List Mark) (tail place news i left : ℕ) (m : Mark) → IsLeft ms tail place news i left → i < length ms → m ≡ get_or ms i m → (left < m.keeps + old_len (piece_of m.change ∷ raw (drop (i + 1) ms) tail)) × (news + m.keeps + suc (length (raw (drop (i + 1) ms) tail)) ≤ length (raw ms tail))
-sizes_at ms tail place news i left m s h e =
-    let rest : List Piece = piece_of m.change ∷ raw (drop (i + 1) ms) tail in
-    let here : raw (drop i ms) tail ≡ replicate m.keeps kept ++ rest = left_here ms tail i m h ∙ ap (λ (x : Mark). replicate x.keeps kept ++ piece_of x.change ∷ raw (drop (i + 1) ms) tail) (sym e) in
-    let a : old_len (raw (drop i ms) tail) ≡ m.keeps + old_len rest = ap old_len here ∙ old_len_past m.keeps rest in
-    let b : length (raw (drop i ms) tail) ≡ m.keeps + suc (length (raw (drop (i + 1) ms) tail)) = ap length here ∙ (length-append (replicate m.keeps kept) rest ∙ omega (arith, length-replicate m.keeps kept)) in
-    (omega (arith, a, s.within), omega (arith, b, s.few))
+    by_piece : (y : Piece) → colour_of y ≢ 0 → BeginsOn OnOld (y ∷ []) → (v : Tree) × (told_old y ≡ v ∷ [])
+    by_piece kept f h = absurd (f refl)
+    by_piece (updated v w) f h = (v, refl)
+    by_piece (deleted v) f h = (v, refl)
+    by_piece (inserted w) f h = absurd h
 
--- a mark is done whose changed element isn't the one sought
-pub left_updated : (ms : List Mark) (tail place news i left : ℕ) (m : Mark) (v w : Tree) → IsLeft ms tail place news i left → i < length ms → m ≡ get_or ms i m → m.keeps ≤ left → m.change ≡ Updated v w → 0 < left - m.keeps → IsLeft ms tail place (news + m.keeps + 1) (i + 1) (left - m.keeps - 1)
-left_updated ms tail place news i left m v w s h e k c p =
-    let rest : List Piece = raw (drop (i + 1) ms) tail in
-    let on : suc (left - m.keeps - 1) ≡ left - m.keeps = omega (arith, p) in
-    let n : suc (news + m.keeps) ≡ news + m.keeps + 1 = omega arith in
-    let sizes = sizes_at ms tail place news i left m s h e in
-    let one : old_len (piece_of m.change ∷ rest) ≡ suc (old_len rest) = ap (λ x. old_len (piece_of x ∷ rest)) c in
+-- the old value that is found at a rank
+pub record OldThere (vs : List Tree) (ps : List Piece) (place i : ℕ) : Type 0 where
+  pub value : Tree
+  pub within : i < length vs
+  pub found : slice_get vs i ≡ Some value
+  pub item : (slice_get (olds 0 ps) place ≡ Some (lone value)) ⊎ ((j : ℕ) × (slice_get (olds 0 ps) place ≡ Some (changed j value)))
+
+pub old_there : (cs : Colours) (vs ws : Listed) (room : ℕ) (ps : List Piece) (place at i : ℕ) → IsStored cs vs ws room ps → IsSelected OnOld ps place at → place < old_len ps → slice_index cs.colours at ≢ 0 → i ≡ count_among 6 (take at cs.colours) → OldThere vs.values ps place i
+old_there cs vs ws room ps place at i s selected within changes rank =
+    let x = colour_at cs.colours ps at s.colours_are (old_within ps place at selected within) in
+    let t = tells_old ps place at x.0 selected x.1.0 (λ e. changes (x.1.1 ∙ e)) in
+    let r : i ≡ length (old_values (take at ps)) = rank ∙ ranked 6 (λ qs. length (old_values qs)) counts_with_old cs.colours ps at s.colours_are in
+    let found : slice_get vs.values i ≡ Some t.0 = ap (λ zs. slice_get zs i) s.olds_are ∙ (ap (slice_get (old_values ps)) r ∙ told_at old_values told_old old_splits ps at x.0 t.0 x.1.0 t.1) in
     record {
-      sought = ap (λ j. slice_get (olds j rest) (left - m.keeps - 1)) (sym n) ∙ (ap (slice_get (olds (news + m.keeps) (piece_of (Updated v w) ∷ rest))) on ∙ (ap (λ x. slice_get (olds (news + m.keeps) (piece_of x ∷ rest)) (left - m.keeps)) (sym c) ∙ left_at ms tail place news i left m s h e k));
-      within = omega (arith, sizes.0, one, on, k);
-      few = omega (arith, sizes.1);
+      value = t.0;
+      within = slice_get_within vs.values i t.0 found;
+      found = found;
+      item = old_value ps place at x.0 t.0 selected x.1.0 selected.here t.1;
     }
 
-pub left_deleted : (ms : List Mark) (tail place news i left : ℕ) (m : Mark) (v : Tree) → IsLeft ms tail place news i left → i < length ms → m ≡ get_or ms i m → m.keeps ≤ left → m.change ≡ Deleted v → 0 < left - m.keeps → IsLeft ms tail place (news + m.keeps) (i + 1) (left - m.keeps - 1)
-left_deleted ms tail place news i left m v s h e k c p =
-    let rest : List Piece = raw (drop (i + 1) ms) tail in
-    let on : suc (left - m.keeps - 1) ≡ left - m.keeps = omega (arith, p) in
-    let sizes = sizes_at ms tail place news i left m s h e in
-    let one : old_len (piece_of m.change ∷ rest) ≡ suc (old_len rest) = ap (λ x. old_len (piece_of x ∷ rest)) c in
-    record {
-      sought = ap (slice_get (olds (news + m.keeps) (piece_of (Deleted v) ∷ rest))) on ∙ (ap (λ x. slice_get (olds (news + m.keeps) (piece_of x ∷ rest)) (left - m.keeps)) (sym c) ∙ left_at ms tail place news i left m s h e k);
-      within = omega (arith, sizes.0, one, on, k);
-      few = omega (arith, sizes.1);
-    }
+pub old_kept_there : (cs : Colours) (vs ws : Listed) (room : ℕ) (ps : List Piece) (place at j mask : ℕ) → IsStored cs vs ws room ps → IsSelected OnOld ps place at → place < old_len ps → slice_index cs.colours at ≡ 0 → mask ≡ 11 → j ≡ count_among mask (take at cs.colours) → IsOldAt (olds 0 ps) place (Kept j)
+old_kept_there cs vs ws room ps place at j mask s selected within plain_colour is rank =
+    let x = colour_at cs.colours ps at s.colours_are (old_within ps place at selected within) in
+    old_kept ps place at j x.0 selected x.1.0 (sym x.1.1 ∙ plain_colour) (rank ∙ (ap (λ m. count_among m (take at cs.colours)) is ∙ ranked 11 new_len counts_new cs.colours ps at s.colours_are))
 
-pub left_inserted : (ms : List Mark) (tail place news i left : ℕ) (m : Mark) (w : Tree) → IsLeft ms tail place news i left → i < length ms → m ≡ get_or ms i m → m.keeps ≤ left → m.change ≡ Inserted w → IsLeft ms tail place (news + m.keeps + 1) (i + 1) (left - m.keeps)
-left_inserted ms tail place news i left m w s h e k c =
-    let rest : List Piece = raw (drop (i + 1) ms) tail in
-    let n : suc (news + m.keeps) ≡ news + m.keeps + 1 = omega arith in
-    let sizes = sizes_at ms tail place news i left m s h e in
-    let one : old_len (piece_of m.change ∷ rest) ≡ old_len rest = ap (λ x. old_len (piece_of x ∷ rest)) c in
-    record {
-      sought = ap (λ j. slice_get (olds j rest) (left - m.keeps)) (sym n) ∙ (ap (λ x. slice_get (olds (news + m.keeps) (piece_of x ∷ rest)) (left - m.keeps)) (sym c) ∙ left_at ms tail place news i left m s h e k);
-      within = omega (arith, sizes.0, one, k);
-      few = omega (arith, sizes.1);
-    }
-
--- the element sought is the changed one of a mark
-pub found_updated : (ms : List Mark) (tail place news i left : ℕ) (m : Mark) (v w : Tree) → IsLeft ms tail place news i left → i < length ms → m ≡ get_or ms i m → m.keeps ≤ left → m.change ≡ Updated v w → left - m.keeps ≡ 0 → slice_get (olds 0 (raw ms tail)) place ≡ Some (changed (news + m.keeps) v)
-found_updated ms tail place news i left m v w s h e k c z =
-    let rest : List Piece = raw (drop (i + 1) ms) tail in
-    sym (left_at ms tail place news i left m s h e k) ∙ (ap (λ x. slice_get (olds (news + m.keeps) (piece_of x ∷ rest)) (left - m.keeps)) c ∙ ap (slice_get (olds (news + m.keeps) (piece_of (Updated v w) ∷ rest))) z)
-
-pub found_deleted : (ms : List Mark) (tail place news i left : ℕ) (m : Mark) (v : Tree) → IsLeft ms tail place news i left → i < length ms → m ≡ get_or ms i m → m.keeps ≤ left → m.change ≡ Deleted v → left - m.keeps ≡ 0 → slice_get (olds 0 (raw ms tail)) place ≡ Some (lone v)
-found_deleted ms tail place news i left m v s h e k c z =
-    let rest : List Piece = raw (drop (i + 1) ms) tail in
-    sym (left_at ms tail place news i left m s h e k) ∙ (ap (λ x. slice_get (olds (news + m.keeps) (piece_of x ∷ rest)) (left - m.keeps)) c ∙ ap (slice_get (olds (news + m.keeps) (piece_of (Deleted v) ∷ rest))) z)
-
--- or a kept one behind the last mark
-left_tail : (ms : List Mark) (tail i : ℕ) → length ms ≤ i → raw (drop i ms) tail ≡ replicate tail kept ++ []
-left_tail ms tail i h = ap (λ xs. raw xs tail) (drop_all i ms h) ∙ sym (append-nil (replicate tail kept))
-
-pub found_tail : (ms : List Mark) (tail place news i left : ℕ) → IsLeft ms tail place news i left → length ms ≤ i → (slice_get (olds 0 (raw ms tail)) place ≡ Some (plain (news + left))) × (news + left ≤ length (raw ms tail))
-found_tail ms tail place news i left s h =
-    let a : old_len (raw (drop i ms) tail) ≡ tail + 0 = ap old_len (left_tail ms tail i h) ∙ old_len_past tail [] in
-    let b : length (raw (drop i ms) tail) ≡ tail = ap (λ xs. length (raw xs tail)) (drop_all i ms h) ∙ length-replicate tail kept in
-    let below : left < tail = omega (arith, a, s.within) in
-    (sym s.sought ∙ (ap (λ ps. slice_get (olds news ps) left) (left_tail ms tail i h) ∙ old_kept tail [] news left below), omega (arith, b, below, s.few))
-
-pub left_same : (ms : List Mark) (tail place n i l news left : ℕ) → news ≡ n → left ≡ l → IsLeft ms tail place n i l → IsLeft ms tail place news i left
-left_same ms tail place n i l news left e f s = let P : ℕ → Type 0 = λ k. IsLeft ms tail place k i left in let Q : ℕ → Type 0 = λ k. IsLeft ms tail place n i k in subst P (sym e) (subst Q (sym f) s)
+pub item_is : (vs : List Tree) (ps : List Piece) (place i : ℕ) (v : Tree) → OldThere vs ps place i → slice_get vs i ≡ Some v → (slice_get (olds 0 ps) place ≡ Some (lone v)) ⊎ ((j : ℕ) × (slice_get (olds 0 ps) place ≡ Some (changed j v)))
+item_is vs ps place i v o e =
+    let same : o.value ≡ v = same_Some o.value v (sym o.found ∙ e) in
+    let P : Tree → Type 0 = λ w. (slice_get (olds 0 ps) place ≡ Some (lone w)) ⊎ ((j : ℕ) × (slice_get (olds 0 ps) place ≡ Some (changed j w))) in
+    subst P same o.item

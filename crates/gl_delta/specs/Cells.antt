@@ -1,10 +1,6 @@
--- The cells of marks.
-use Rattle.std.specs.Prelude.{ℕ, suc, List, [], ◌∷◌, Bool, true, false}
-use Rattle.std.proofs.Common.{zero}
-use Rattle.spec_lists.specs.Cells.{Cell, keep, update, delete, insert}
-use Rattle.gl_delta.specs.declared.mark.Changed.{Changed}
-use Rattle.gl_delta.specs.declared.mark.Changed.TheVariants.{Updated, Deleted, Inserted}
-use Rattle.gl_delta.specs.declared.mark.Mark.{Mark}
+-- The cells of pieces, as they are shown and given.
+use Rattle.std.specs.Prelude.{List, drop}
+use Rattle.spec_lists.specs.Cells.{Cell, keep, update, delete, insert, cells_of}
 use Rattle.gl_delta.specs.declared.cell.CellRef.{CellRef}
 use Rattle.gl_delta.specs.declared.cell.CellRef.TheVariants.{Keep, Update, Delete, Insert}
 use Rattle.gl_delta.specs.declared.cell.Cell.{Cell as Given}
@@ -24,21 +20,6 @@ cell_of (given.Update v w) = update v w
 cell_of (given.Delete v) = delete v
 cell_of (given.Insert w) = insert w
 
-abbrev pub cell_change : Changed → Cell
-cell_change (Updated v w) = update v w
-cell_change (Deleted v) = delete v
-cell_change (Inserted w) = insert w
-
--- so many kept elements, if any, in front of other cells
-abbrev pub kept_cell : ℕ → List Cell → List Cell
-kept_cell zero cs = cs
-kept_cell (suc n) cs = keep (suc n) ∷ cs
-
--- the cells of marks; of the first without its kept elements where these were given
-abbrev pub cells_left : List Mark → ℕ → Bool → List Cell
-cells_left [] tail given = kept_cell tail []
-cells_left (m ∷ ms) tail true = cell_change m.change ∷ cells_left ms tail false
-cells_left (m ∷ ms) tail false = kept_cell m.keeps (cell_change m.change ∷ cells_left ms tail false)
-
+-- the cells of the pieces from a place on
 abbrev pub cells_rest : Cells → List Cell
-cells_rest s = cells_left s.marks.now s.tail s.kept
+cells_rest s = cells_of (drop s.at s.store.now.pieces)

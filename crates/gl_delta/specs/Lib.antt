@@ -1,5 +1,11 @@
 pub mod Marks
+pub mod Listed
+pub mod Store
+pub mod Turns
 pub mod Told
 pub mod Pieces
 pub mod Cells
 pub mod Old
+pub mod Absorb
+pub mod Part
+pub mod Plain

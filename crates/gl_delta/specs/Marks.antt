@@ -1,12 +1,10 @@
--- The pieces that marks count.
-use Rattle.std.specs.Prelude.{◌==◌, ◌≡◌, ◌-◌, ◌<◌, ◌≤◌, ℕ, zero, suc, List, [], ◌∷◌, ◌++◌, length, take, drop, replicate, Bool, true, false}
+-- The pieces that changed elements are, and those that are elements of one of the lists.
+use Rattle.std.specs.Prelude.{◌≡◌, ◌≤◌, ℕ, List, [], ◌∷◌, length, take, drop, Bool, true, false}
 use Rattle.spec_lists.specs.Piece.{Piece, kept, updated, deleted, inserted, old_len, new_len}
 use Rattle.gl_delta.specs.declared.mark.Changed.{Changed}
 use Rattle.gl_delta.specs.declared.mark.Changed.TheVariants.{Updated, Deleted, Inserted}
-use Rattle.gl_delta.specs.declared.mark.Mark.{Mark}
 use Rattle.gl_delta.specs.declared.mark.Side.{Side}
 use Rattle.gl_delta.specs.declared.mark.Side.TheVariants.{Old, New}
-use Rattle.gl_delta.specs.declared.mark.Spot.{Spot}
 use Rattle.gl_delta.specs.declared.mark.Kind.{Kind}
 use Rattle.gl_delta.specs.declared.mark.Kind.TheVariants as kind
 
@@ -21,11 +19,6 @@ kind_of (updated v w) = kind.Updated
 kind_of (deleted v) = kind.Deleted
 kind_of (inserted w) = kind.Inserted
 
--- the pieces of marks, with so many kept ones behind the last
-abbrev pub raw : List Mark → ℕ → List Piece
-raw [] tail = replicate tail kept
-raw (m ∷ ms) tail = replicate m.keeps kept ++ piece_of m.change ∷ raw ms tail
-
 -- whether a changed element is one of a list
 abbrev pub IsOn : Side → Changed → Bool
 IsOn Old (Updated v w) = true
@@ -39,17 +32,6 @@ IsOn New (Inserted w) = true
 abbrev pub side_len : Side → List Piece → ℕ
 side_len Old ps = old_len ps
 side_len New ps = new_len ps
-
--- no more kept ones than the first mark has in front of it
-abbrev pub IsBefore : List Mark → ℕ → Type 0
-IsBefore [] offset = Unit {0}
-IsBefore (m ∷ ms) offset = offset ≤ m.keeps
-
--- a spot is that of the piece at a place
-pub record IsSpot (marks : List Mark) (place : ℕ) (spot : Spot) : Type 0 where
-  pub within : spot.mark ≤ length marks
-  pub before : IsBefore (drop spot.mark marks) spot.offset
-  pub place_is : length (raw (take spot.mark marks) spot.offset) ≡ place
 
 -- the first piece is an element of that list, if there is a first piece
 abbrev pub BeginsOn : Side → List Piece → Type 0
@@ -69,18 +51,3 @@ pub record IsSelected (side : Side) (ps : List Piece) (place found : ℕ) : Type
   pub within : found ≤ length ps
   pub before : side_len side (take found ps) ≡ place
   pub here : BeginsOn side (drop found ps)
-
--- what is left behind so many kept ones in front
-abbrev pub rest_of : List Mark → ℕ → ℕ → List Piece
-rest_of [] tail o = replicate (tail - o) kept
-rest_of (m ∷ ms) tail o = replicate (m.keeps - o) kept ++ piece_of m.change ∷ raw ms tail
-
--- there are so many kept ones in front
-abbrev pub IsWithin : List Mark → ℕ → ℕ → Type 0
-IsWithin [] tail o = o ≤ tail
-IsWithin (m ∷ ms) tail o = o ≤ m.keeps
-
--- whether a changed one stands behind so many kept ones
-abbrev pub is_changed_at : List Mark → ℕ → Bool
-is_changed_at [] o = false
-is_changed_at (m ∷ ms) o = o == m.keeps

@@ -1,20 +1,19 @@
 -- What the store of a delta holds.
-use Rattle.std.specs.Prelude.{◌≡◌, ◌≤◌, ◌++◌, ℕ, suc, List, [], ◌∷◌, Bool, true, false, Option, Some, None, vec_capacity}
+use Rattle.std.specs.Prelude.{◌≡◌, ◌-◌, ◌≤◌, ◌++◌, ℕ, List, [], ◌∷◌, length, drop, Bool, true, false, Option, Some, None, slice_get}
 use Rattle.spec_value.specs.Tree.{Tree}
-use Rattle.spec_lists.specs.Piece.{Piece, kept, updated, deleted, inserted, old_len, new_len, normal, IsNormal}
+use Rattle.spec_lists.specs.Piece.{Piece, kept, updated, deleted, inserted, old_len, new_len, normal, identity, IsNormal}
 use Rattle.spec_lists.specs.Delta.{composed}
 use Rattle.gl_delta.specs.declared.mark.Changed.{Changed}
 use Rattle.gl_delta.specs.declared.mark.Changed.TheVariants.{Updated, Deleted, Inserted}
-use Rattle.gl_delta.specs.declared.pieces.Pieces.{Pieces}
 use Rattle.gl_delta.specs.declared.mark.TheConstants.{MOST}
-use Rattle.gl_delta.specs.Marks.{raw, piece_of}
+use Rattle.gl_delta.specs.Told.{Told}
 
-abbrev pub pieces : Pieces → List Piece
-pieces p = raw p.marks.items p.tail
+abbrev pub pieces : Told → List Piece
+pieces t = t.pieces
 
 -- for how many changed pieces it has room
-abbrev pub room : Pieces → ℕ
-room p = vec_capacity p.marks
+abbrev pub room : Told → ℕ
+room t = t.room
 
 -- whether a piece is there, and of that kind
 abbrev pub is_kept_piece : Option Piece → Bool
@@ -37,6 +36,13 @@ is_deleted_piece (Some kept) = false
 is_deleted_piece (Some (updated v w)) = false
 is_deleted_piece (Some (deleted v)) = true
 is_deleted_piece (Some (inserted w)) = false
+
+-- from a place on the pieces are kept up to this one, which is changed or the end
+pub record IsNextChanged (ps : List Piece) (from found : ℕ) : Type 0 where
+  pub order : from ≤ found
+  pub within : found ≤ length ps
+  pub keeps : drop from ps ≡ identity (found - from) ++ drop found ps
+  pub here : is_kept_piece (slice_get ps found) ≡ false
 
 -- the values of a changed piece
 abbrev pub first_of : Changed → Tree

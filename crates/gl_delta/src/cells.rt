@@ -1,19 +1,18 @@
 //! The cells of a delta, one after another.
 
-ghost use Rattle.std.specs.Prelude.{◌≡◌};
 ghost use Rattle.std.specs.Iterator.{YieldsFirstBy, item_count};
 ghost use Rattle.gl_delta.specs.Cells.{cell_ref, cells_rest};
 
 use crate::cell::CellRef;
-use crate::mark::Mark;
+use crate::pieces::Pieces;
 
-/// The cells of a delta from left to right, kept elements next to one another in one cell. A step takes constant time.
+/// The cells of a delta from left to right, kept elements next to one another in one cell. A step takes time logarithmic
+/// in the changes of the delta.
 #[derive(Drop)]
 pub struct Cells<'a> {
-    pub(crate) marks: &'a [Mark],
-    pub(crate) tail: usize,
-    // Whether the kept elements in front of the first mark were given.
-    pub(crate) kept: bool,
+    pub(crate) store: &'a Pieces,
+    // The place of the first piece that wasn't given.
+    pub(crate) at: usize,
 }
 
 impl<'a> Iterator for Cells<'a> {
@@ -24,20 +23,17 @@ impl<'a> Iterator for Cells<'a> {
     ghost remaining = { item_count cells_rest };
 
     fn next(&mut self) -> Option<CellRef<'a>> {
-        let Some((mark, rest)) = self.marks.split_first() else {
-            let keeps = self.tail;
-            if keeps == 0 {
-                return None;
-            }
-            self.tail = 0;
-            return Some(CellRef::Keep(keeps));
-        };
-        if !self.kept && mark.keeps > 0 {
-            self.kept = true;
-            return Some(CellRef::Keep(mark.keeps));
+        let len = self.store.len();
+        if self.at >= len {
+            return None;
         }
-        self.marks = rest;
-        self.kept = false;
-        Some(mark.change.cell())
+        let found = self.store.next_changed(self.at);
+        if self.at < found {
+            let keeps = found - self.at;
+            self.at = found;
+            return Some(CellRef::Keep(keeps));
+        }
+        self.at += 1;
+        Some(self.store.cell(found))
     }
 }

@@ -6,10 +6,12 @@ ghost use Rattle.spec_lists.specs.Delta.{composed, one_insert, one_set, one_remo
 ghost use Rattle.spec_lists.specs.Cells.{pieces_in, cells_of};
 ghost use Rattle.spec_lists.specs.Changes.{changed_len, after_changes};
 ghost use Rattle.spec_lists.specs.Sides.{sides};
+ghost use Rattle.gl_delta.specs.Absorb.{cells_together};
 ghost use Rattle.gl_delta.specs.Old.{IsOldAt};
 ghost use Rattle.gl_delta.specs.Cells.{cell_of, cells_rest};
 ghost use Rattle.gl_delta.specs.declared.mark.TheConstants.{MOST};
 
+use crate::absorb::absorb;
 use crate::cell::{Cell, Old};
 use crate::cells::Cells;
 use crate::edits::{both, first, insert_at, push, remove_at, set_at};
@@ -25,9 +27,9 @@ use std::marker::Model;
 /// Its cells are the four colours (insert, update, delete, no change) in which Glazed Lists' assembler collects changes.
 #[derive(Drop)]
 pub struct Delta {
-    store: Pieces,
-    olds: usize,
-    news: usize,
+    pub(crate) store: Pieces,
+    pub(crate) olds: usize,
+    pub(crate) news: usize,
 }
 
 impl Model for Delta {
@@ -45,13 +47,13 @@ impl Model for Delta {
 }
 
 impl Delta {
-    /// The delta of a list that doesn't change. It takes no memory.
+    /// The delta of a list that doesn't change.
     pub fn identity(alloc: Global, len: usize) -> Result<Delta, AllocError>
         requires { len ≤ MOST }
         ensures { IfOk result (λ d. d.pieces ≡ identity len) }
     {
         Ok(Delta {
-            store: Pieces::kept(alloc, len),
+            store: Pieces::kept(alloc, len)?,
             olds: len,
             news: len,
         })
@@ -62,7 +64,7 @@ impl Delta {
         ensures { result.pieces ≡ [] }
     {
         Delta {
-            store: Pieces::kept(alloc, 0),
+            store: Pieces::none(alloc),
             olds: 0,
             news: 0,
         }
@@ -104,12 +106,14 @@ impl Delta {
         ensures room { self.old.room ≤ self.new.room }
     {
         match c {
-            Cell::Keep(n) => {
-                self.store.keep(n);
-                self.olds += n;
-                self.news += n;
-                Ok(())
-            }
+            Cell::Keep(n) => match self.store.keep(n) {
+                Ok(()) => {
+                    self.olds += n;
+                    self.news += n;
+                    Ok(())
+                }
+                Err(failed) => Err((Cell::Keep(n), failed)),
+            },
             Cell::Update(v, w) => match push(&mut self.store, self.news, Changed::Updated(v, w)) {
                 Ok(()) => {
                     self.olds += 1;
@@ -183,6 +187,33 @@ impl Delta {
         remove_at(&mut self.store, at, old)?;
         self.news -= 1;
         Ok(())
+    }
+
+    /// Makes room for the composition with another delta: spare, which is room less the number of changed elements,
+    /// is then at least the number of both deltas' cells. Where there is no memory for it, the delta is as it was.
+    pub fn reserve_for(&mut self, next: &Delta) -> Result<(), AllocError>
+        ensures ok { OnOk result
+            (changed_len self.new.pieces + cells_together self.new.pieces next.now.pieces ≤ self.new.room) }
+        ensures pieces { self.new.pieces ≡ self.old.pieces }
+        ensures room { self.old.room ≤ self.new.room }
+    {
+        // Between two changes stands one cell of kept elements at most.
+        let cells = 2 * self.changes() + 1 + 2 * next.changes() + 1;
+        self.store.reserve(cells)?;
+        Ok(())
+    }
+
+    /// Composes the delta with one that leads on from its new list: it then leads from its old list to the new list
+    /// of the other. It takes no memory, but room that `reserve_for` made. The work follows the changes of the other
+    /// delta.
+    pub fn absorb(&mut self, next: Delta)
+        requires fits { old_len next.pieces ≡ new_len self.old.pieces }
+        requires spare { changed_len self.old.pieces + cells_together self.old.pieces next.pieces ≤ self.old.room }
+        ensures pieces { self.new.pieces ≡ composed self.old.pieces next.pieces }
+        ensures room { self.old.room ≤ self.new.room }
+    {
+        absorb(&mut self.store, next.store);
+        self.news = next.news;
     }
 
     /// What became of an element of the old list: kept, at this new place; or its value where it was updated or deleted.

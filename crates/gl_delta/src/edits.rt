@@ -2,10 +2,11 @@
 
 ghost use Rattle.std.specs.Prelude.{◌≡◌, ◌+◌, ◌-◌, ◌*◌, ◌<◌, ◌≤◌, ◌++◌, ◌∷◌, length, take, drop, IfErr, OnOk, OnErr, Some, slice_get, suc, true};
 ghost use Rattle.spec_lists.specs.Piece.{kept, deleted, old_len, new_len, normal, IsNormal};
+ghost use Rattle.spec_lists.specs.Changes.{changed_len};
 ghost use Rattle.spec_lists.specs.Delta.{one_insert, one_set, one_remove};
 ghost use Rattle.gl_delta.specs.Marks.{piece_of, IsOn};
 ghost use Rattle.gl_delta.specs.declared.mark.Side.TheVariants.{New};
-ghost use Rattle.gl_delta.specs.declared.mark.TheConstants.{ROOM};
+ghost use Rattle.gl_delta.specs.declared.mark.TheConstants.{MOST};
 ghost use Rattle.gl_delta.specs.Pieces.{pieces, room, first_of, second_of, with_new, IsUpdated, AllInserted, EndsUninserted, IsComposed, IsPushed};
 
 use crate::mark::{Changed, Side};
@@ -16,11 +17,12 @@ use std::alloc::AllocError;
 /// A value inserted at a place of the new list.
 pub(crate) fn insert_at(store: &mut Pieces, at: usize, v: Value) -> Result<(), (Value, AllocError)>
     requires within { at ≤ new_len (pieces store.old) }
-    requires few { length (pieces store.old) ≤ 2 * ROOM }
+    requires few { length (pieces store.old) + 1 ≤ 2 * MOST }
     requires normal { IsNormal (pieces store.old) }
     ensures ok { OnOk result (IsComposed (pieces store.old) (one_insert (new_len (pieces store.old)) at v) (pieces store.new)) }
     ensures err { OnErr result (pieces store.new ≡ pieces store.old) }
     ensures back { IfErr result (λ e. e.0 ≡ v) }
+    ensures full { OnErr result (room store.old ≤ changed_len (pieces store.old)) }
     ensures room { room store.old ≤ room store.new }
 {
     let place = store.select(Side::New, at);
@@ -38,11 +40,12 @@ pub(crate) fn set_at(
     new: Value,
 ) -> Result<(), (Value, Value, AllocError)>
     requires within { at < new_len (pieces store.old) }
-    requires few { length (pieces store.old) + 1 ≤ 2 * ROOM }
+    requires few { length (pieces store.old) ≤ 2 * MOST }
     requires normal { IsNormal (pieces store.old) }
     ensures ok { OnOk result (IsComposed (pieces store.old) (one_set (new_len (pieces store.old)) at old new) (pieces store.new)) }
     ensures err { OnErr result (pieces store.new ≡ pieces store.old) }
     ensures back { IfErr result (λ e. (e.0 ≡ old) × (e.1 ≡ new)) }
+    ensures full { OnErr result (room store.old ≤ changed_len (pieces store.old)) }
     ensures room { room store.old ≤ room store.new }
 {
     let place = store.select(Side::New, at);
@@ -67,11 +70,12 @@ pub(crate) fn remove_at(
     old: Value,
 ) -> Result<(), (Value, AllocError)>
     requires within { at < new_len (pieces store.old) }
-    requires few { length (pieces store.old) + 1 ≤ 2 * ROOM }
+    requires few { length (pieces store.old) ≤ 2 * MOST }
     requires normal { IsNormal (pieces store.old) }
     ensures ok { OnOk result (IsComposed (pieces store.old) (one_remove (new_len (pieces store.old)) at old) (pieces store.new)) }
     ensures err { OnErr result (pieces store.new ≡ pieces store.old) }
     ensures back { IfErr result (λ e. e.0 ≡ old) }
+    ensures full { OnErr result (room store.old ≤ changed_len (pieces store.old)) }
     ensures room { room store.old ≤ room store.new }
 {
     let place = store.select(Side::New, at);
@@ -99,7 +103,7 @@ pub(crate) fn push(
     change: Changed,
 ) -> Result<(), (Changed, AllocError)>
     requires news { news ≡ new_len (pieces store.old) }
-    requires few { length (pieces store.old) + 1 ≤ 2 * ROOM }
+    requires few { length (pieces store.old) + 1 ≤ 2 * MOST }
     requires normal { IsNormal (pieces store.old) }
     ensures ok { OnOk result (IsPushed (pieces store.old) (piece_of change) (pieces store.new)) }
     ensures err { OnErr result (pieces store.new ≡ pieces store.old) }
@@ -122,14 +126,18 @@ fn replace_kept(
     change: Changed,
 ) -> Result<(), (Changed, AllocError)>
     requires kept { slice_get (pieces store.old) place ≡ Some kept }
-    requires few { length (pieces store.old) + 1 ≤ 2 * ROOM }
+    requires few { length (pieces store.old) ≤ 2 * MOST }
     ensures ok { OnOk result (pieces store.new ≡ take place (pieces store.old) ++ piece_of change ∷ drop (suc place) (pieces store.old)) }
     ensures err { OnErr result (pieces store.new ≡ pieces store.old) }
     ensures back { IfErr result (λ e. e.0 ≡ change) }
+    ensures full { OnErr result (room store.old ≤ changed_len (pieces store.old)) }
     ensures room { room store.old ≤ room store.new }
 {
-    store.put(place, change)?;
-    store.drop_kept(place + 1);
+    if store.reserve(1).is_err() {
+        return Err((change, AllocError));
+    }
+    store.drop_kept(place);
+    store.put_back(place, change);
     Ok(())
 }
 
@@ -138,7 +146,7 @@ pub(crate) fn settle(store: &mut Pieces, at: usize)
     requires within { at ≤ length (pieces store.old) }
     requires front { IsNormal (take at (pieces store.old)) }
     requires back { IsNormal (drop at (pieces store.old)) }
-    requires few { length (pieces store.old) ≤ 2 * ROOM }
+    requires few { length (pieces store.old) ≤ 2 * MOST }
     ensures value { pieces store.new ≡ normal (pieces store.old) }
     ensures room { room store.old ≤ room store.new }
 {

@@ -1,6 +1,6 @@
 //! Laws over all deltas, each on a function that does nothing.
 
-ghost use Rattle.spec_lists.specs.Laws.{CompositionIsAssociative, IdentityIsNeutral, InverseOfComposition, CompositionLeads, InverseLeadsBack, SidesTellPairs};
+ghost use Rattle.spec_lists.specs.Laws.{CompositionIsAssociative, IdentityIsNeutral, InverseOfComposition, CompositionJoinsPairs, CompositionLeads, InverseLeadsBack, SidesTellPairs};
 
 /// Composition is associative.
 pub fn composition_is_associative()
@@ -15,6 +15,11 @@ pub fn identity_is_neutral()
 /// The inverse of a composition is the composition of the inverses in turn.
 pub fn inverse_of_composition()
     ensures { InverseOfComposition }
+{}
+
+/// A pair of a composition is a pair of the first delta and one of the second that meet, updated where either is.
+pub fn composition_joins_pairs()
+    ensures { CompositionJoinsPairs }
 {}
 
 /// A composition leads from the first list to the last.

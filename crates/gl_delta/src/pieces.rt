@@ -1,62 +1,95 @@
-//! The pieces of a delta, edited one at a time. What is kept is counted and takes no memory.
+//! The pieces of a delta, edited one at a time: colours in runs, and beside them the values that pieces tell. What is kept
+//! takes no memory of its own, and each step takes time logarithmic in the changes.
 
-ghost use Rattle.std.specs.Prelude.{◌↔◌, IsTrue, ◌≡◌, ◌+◌, ◌*◌, ◌<◌, ◌≤◌, [], length, take, drop, replicate, insert, remove, IfOk, IfErr, OnOk, OnErr, Some, false, slice_get, option_map, vec_len, vec_capacity, ◌++◌, ◌∷◌};
-ghost use Rattle.spec_lists.specs.Piece.{kept, identity, old_len};
-ghost use Rattle.spec_lists.specs.Cells.{cells_of};
+ghost use Rattle.std.specs.Prelude.{◌↔◌, IsTrue, ◌≡◌, ◌+◌, ◌*◌, ◌<◌, ◌≤◌, [], length, insert, remove, IfOk, IfErr, OnOk, OnErr, Some, false, slice_get, option_map, ◌++◌, ◌∷◌, drop, map};
+ghost use Rattle.spec_lists.specs.Piece.{Piece, kept, identity, old_len, normal, turned, IsNormal};
+ghost use Rattle.spec_lists.specs.Cells.{cells_of, pieces_in};
 ghost use Rattle.spec_lists.specs.Changes.{after_changes, changed_len};
 ghost use Rattle.spec_lists.specs.Sides.{olds};
 ghost use Rattle.gl_delta.specs.Old.{IsOldAt};
-ghost use Rattle.gl_delta.specs.Cells.{cells_rest};
-ghost use Rattle.gl_delta.specs.Marks.{piece_of, raw, rest_of, IsWithin, IsSelected, side_len, kind_of};
-ghost use Rattle.gl_delta.specs.declared.mark.TheConstants.{ROOM};
-ghost use Rattle.gl_delta.specs.Pieces.{pieces, room, is_kept_piece, is_inserted_piece, is_deleted_piece};
+ghost use Rattle.gl_delta.specs.Cells.{cells_rest, cell_ref};
+ghost use Rattle.gl_delta.specs.Marks.{piece_of, IsSelected, side_len, kind_of};
+ghost use Rattle.gl_delta.specs.declared.mark.TheConstants.{MOST};
+ghost use Rattle.gl_delta.specs.Pieces.{pieces, room, is_kept_piece, is_inserted_piece, is_deleted_piece, IsNextChanged};
 
-use crate::cell::Old;
+use crate::cell::{CellRef, Old};
 use crate::cells::Cells;
-use crate::mark::{Changed, Kind, Mark, Side, copies, find, old_at, select};
+use crate::mark::{CHANGED, Changed, KEPT, Kind, Side, WITH_NEW, WITH_OLD};
+use crate::ranked::Ranked;
+use crate::turn::turn;
+use crate::values::{put_values, take_values};
+use gl_fourcolour::Runs;
 use std::alloc::{AllocError, Global};
+use std::marker::Model;
 
-/// Pieces as marks, with the number of kept ones behind the last mark.
+/// Pieces, by a colour for each one, and the old and the new values that they tell. Contracts see the pieces, and for how
+/// many changed ones there is room.
 #[derive(Drop)]
 pub(crate) struct Pieces {
-    pub(crate) marks: Vec<Mark>,
-    pub(crate) tail: usize,
+    colours: Runs<4>,
+    olds: Ranked,
+    news: Ranked,
+    room: usize,
+    alloc: Global,
+}
+
+impl Model for Pieces {
+    ghost use Rattle.gl_delta.specs.Told.{Told, told_code};
+    ghost use Rattle.gl_delta.specs.Store.{told_by, IsStored};
+
+    ghost Value = { Told };
+
+    ghost coded = { told_code };
+
+    ghost view = { λ p. record {
+      pieces = told_by p.colours.colours p.olds.values p.news.values;
+      room = p.room;
+    } };
+
+    ghost invariant = { λ p. IsStored p.colours p.olds p.news p.room (told_by p.colours.colours p.olds.values p.news.values) };
 }
 
 impl Pieces {
-    /// So many kept ones. It takes no memory.
-    pub(crate) fn kept(alloc: Global, len: usize) -> Pieces
-        ensures { pieces result ≡ identity len }
+    /// No pieces. It takes no memory.
+    pub(crate) fn none(alloc: Global) -> Pieces
+        ensures { pieces result ≡ [] }
     {
         Pieces {
-            marks: Vec::new(alloc),
-            tail: len,
+            colours: Runs::<4>::new(alloc),
+            olds: Ranked::new(alloc),
+            news: Ranked::new(alloc),
+            room: 0,
+            alloc,
         }
+    }
+
+    /// So many kept ones.
+    pub(crate) fn kept(alloc: Global, len: usize) -> Result<Pieces, AllocError>
+        requires { len ≤ 2 * MOST }
+        ensures { IfOk result (λ p. pieces p ≡ identity len) }
+    {
+        let mut all = Pieces::none(alloc);
+        all.keep(len)?;
+        Ok(all)
     }
 
     /// The place of an element of one list among the pieces; at the list's length the number of pieces.
     pub(crate) fn select(&self, side: Side, place: usize) -> usize
         requires within { place ≤ side_len side (pieces self.now) }
-        requires few { length (pieces self.now) ≤ 2 * ROOM }
         ensures { IsSelected side (pieces self.now) place result }
     {
-        select(self.marks.as_slice(), self.tail, side, place)
+        match self.colours.select(place, side.mask()) {
+            Some(found) => found,
+            None => self.colours.len(),
+        }
     }
 
     /// What the piece at a place is, `None` behind the last one.
     pub(crate) fn kind(&self, place: usize) -> Option<Kind>
         ensures { result ≡ option_map kind_of (slice_get (pieces self.now) place) }
     {
-        let spot = find(self.marks.as_slice(), place);
-        if spot.mark < self.marks.len() {
-            let m = &self.marks[spot.mark];
-            if spot.offset == m.keeps {
-                Some(m.change.kind())
-            } else {
-                Some(Kind::Kept)
-            }
-        } else if spot.offset < self.tail {
-            Some(Kind::Kept)
+        if place < self.colours.len() {
+            Some(Kind::of_colour(self.colours.colour(place)))
         } else {
             None
         }
@@ -101,65 +134,81 @@ impl Pieces {
         }
     }
 
+    /// Makes room for so many changed pieces more.
+    pub(crate) fn reserve(&mut self, more: usize) -> Result<(), AllocError>
+        ensures ok { OnOk result (changed_len (pieces self.new) + more ≤ room self.new) }
+        ensures pieces { pieces self.new ≡ pieces self.old }
+        ensures full { OnErr result (room self.old < changed_len (pieces self.old) + more) }
+        ensures room { room self.old ≤ room self.new }
+    {
+        let Some(total) = self.changes().checked_add(more) else {
+            return Err(AllocError);
+        };
+        if total <= self.room {
+            return Ok(());
+        }
+        let Some(edits) = total.checked_add(1) else {
+            return Err(AllocError);
+        };
+        self.olds.reserve(total)?;
+        self.news.reserve(total)?;
+        self.colours.reserve(edits)?;
+        self.room = total;
+        Ok(())
+    }
+
     /// Puts a changed piece at a place. It takes memory where there is no room for one more.
     pub(crate) fn put(&mut self, place: usize, change: Changed) -> Result<(), (Changed, AllocError)>
-        requires { place ≤ length (pieces self.old) }
+        requires within { place ≤ length (pieces self.old) }
+        requires few { length (pieces self.old) + 1 ≤ 2 * MOST }
         ensures ok { OnOk result (pieces self.new ≡ insert (pieces self.old) place (piece_of change)) }
         ensures err { OnErr result (pieces self.new ≡ pieces self.old) }
         ensures back { IfErr result (λ e. e.0 ≡ change) }
         ensures full { OnErr result (room self.old ≤ changed_len (pieces self.old)) }
         ensures room { room self.old ≤ room self.new }
     {
-        let spot = find(self.marks.as_slice(), place);
-        let mark = Mark {
-            keeps: spot.offset,
-            change,
-        };
-        if let Err(failed) = self.marks.insert(spot.mark, mark) {
-            return Err((failed.value.change, AllocError));
+        if self.reserve(1).is_err() {
+            return Err((change, AllocError));
         }
-        self.lessen(spot.mark + 1, spot.offset);
+        self.put_back(place, change);
         Ok(())
     }
 
     /// Puts a changed piece at a place, in room that there is. It takes no memory.
     pub(crate) fn put_back(&mut self, place: usize, change: Changed)
         requires within { place ≤ length (pieces self.old) }
+        requires few { length (pieces self.old) + 1 ≤ 2 * MOST }
         requires spare { changed_len (pieces self.old) < room self.old }
         ensures pieces { pieces self.new ≡ insert (pieces self.old) place (piece_of change) }
         ensures room { room self.old ≤ room self.new }
     {
-        match self.put(place, change) {
-            Ok(()) => {}
-            Err(_) => unreachable!(),
-        }
+        let old = self.colours.rank(place, WITH_OLD);
+        let new = self.colours.rank(place, WITH_NEW);
+        self.colours.insert_reserved(place, change.colour(), 1);
+        put_values(&mut self.olds, &mut self.news, old, new, change);
     }
 
     /// Puts a changed piece at the end. It takes memory where there is no room for one more.
     pub(crate) fn append(&mut self, change: Changed) -> Result<(), (Changed, AllocError)>
+        requires few { length (pieces self.old) + 1 ≤ 2 * MOST }
         ensures ok { OnOk result (pieces self.new ≡ pieces self.old ++ piece_of change ∷ []) }
         ensures err { OnErr result (pieces self.new ≡ pieces self.old) }
         ensures back { IfErr result (λ e. e.0 ≡ change) }
         ensures room { room self.old ≤ room self.new }
     {
-        let mark = Mark {
-            keeps: self.tail,
-            change,
-        };
-        if let Err(failed) = self.marks.push(mark) {
-            return Err((failed.value.change, AllocError));
-        }
-        self.tail = 0;
-        Ok(())
+        let end = self.colours.len();
+        self.put(end, change)
     }
 
-    /// Puts so many kept pieces at the end. It takes no memory.
-    pub(crate) fn keep(&mut self, n: usize)
-        requires { length (pieces self.old) + n ≤ 2 * ROOM }
-        ensures pieces { pieces self.new ≡ pieces self.old ++ identity n }
+    /// Puts so many kept pieces at the end. It takes memory where no run of kept ones stands there.
+    pub(crate) fn keep(&mut self, n: usize) -> Result<(), AllocError>
+        requires { length (pieces self.old) + n ≤ 2 * MOST }
+        ensures ok { OnOk result (pieces self.new ≡ pieces self.old ++ identity n) }
+        ensures err { OnErr result (pieces self.new ≡ pieces self.old) }
         ensures room { room self.new ≡ room self.old }
     {
-        self.tail += n;
+        let end = self.colours.len();
+        self.colours.insert(end, KEPT, n)
     }
 
     /// Takes out a kept piece.
@@ -168,89 +217,137 @@ impl Pieces {
         ensures rest { pieces self.new ≡ remove (pieces self.old) place }
         ensures room { room self.new ≡ room self.old }
     {
-        let spot = find(self.marks.as_slice(), place);
-        self.lessen(spot.mark, 1);
+        self.colours.remove(place, 1);
     }
 
     /// Takes out a changed piece. There is room for it afterwards.
     pub(crate) fn take(&mut self, place: usize) -> Changed
         requires within { place < length (pieces self.old) }
         requires changed { is_kept_piece (slice_get (pieces self.old) place) ≡ false }
-        requires few { length (pieces self.old) ≤ 2 * ROOM }
         ensures taken { slice_get (pieces self.old) place ≡ Some (piece_of result) }
         ensures rest { pieces self.new ≡ remove (pieces self.old) place }
         ensures room { room self.new ≡ room self.old }
         ensures spare { changed_len (pieces self.new) < room self.new }
     {
-        let spot = find(self.marks.as_slice(), place);
-        let Mark { keeps, change } = self.marks.remove(spot.mark);
-        self.raise(spot.mark, keeps);
-        change
-    }
-
-    // So many kept ones fewer in front of a mark, or behind the last one.
-    fn lessen(&mut self, at: usize, n: usize)
-        requires at { at ≤ vec_len self.old.marks }
-        requires enough { IsWithin (drop at self.old.marks.items) self.old.tail n }
-        ensures pieces { pieces self.new ≡ raw (take at self.old.marks.items) 0 ++ rest_of (drop at self.old.marks.items) self.old.tail n }
-        ensures room { room self.new ≡ room self.old }
-        ensures marks { vec_len self.new.marks ≡ vec_len self.old.marks }
-    {
-        if at < self.marks.len() {
-            let m = &mut self.marks[at];
-            m.keeps -= n;
-        } else {
-            self.tail -= n;
-        }
-    }
-
-    // So many kept ones more in front of a mark, or behind the last one.
-    fn raise(&mut self, at: usize, n: usize)
-        requires at { at ≤ vec_len self.old.marks }
-        requires few { length (pieces self.old) + n ≤ 2 * ROOM }
-        ensures pieces { pieces self.new ≡ raw (take at self.old.marks.items) n ++ raw (drop at self.old.marks.items) self.old.tail }
-        ensures room { room self.new ≡ room self.old }
-        ensures marks { vec_len self.new.marks ≡ vec_len self.old.marks }
-    {
-        if at < self.marks.len() {
-            let m = &mut self.marks[at];
-            m.keeps += n;
-        } else {
-            self.tail += n;
-        }
+        let kind = Kind::of_colour(self.colours.colour(place));
+        let old = self.colours.rank(place, WITH_OLD);
+        let new = self.colours.rank(place, WITH_NEW);
+        self.colours.remove(place, 1);
+        take_values(&mut self.olds, &mut self.news, old, new, kind)
     }
 
     /// Whether all are kept.
     pub(crate) fn is_unchanged(&self) -> bool
         ensures { IsTrue result ↔ (pieces self.now ≡ identity (old_len (pieces self.now))) }
     {
-        self.marks.is_empty()
+        self.changes() == 0
     }
 
     /// What became of an element of the old list.
     pub(crate) fn old_at(&self, place: usize) -> Old<'_>
         requires within { place < old_len (pieces self.now) }
-        requires few { length (pieces self.now) ≤ 2 * ROOM }
         ensures { IsOldAt (olds 0 (pieces self.now)) place result }
     {
-        old_at(self.marks.as_slice(), self.tail, place)
+        let found = self.select(Side::Old, place);
+        if self.colours.colour(found) == KEPT {
+            return Old::Kept(self.colours.rank(found, Side::New.mask()));
+        }
+        Old::Value(self.olds.at(self.colours.rank(found, WITH_OLD)))
     }
 
     /// An equal list of pieces, in memory of its own.
     pub(crate) fn copy(&self) -> Result<Pieces, AllocError>
+        requires { length (pieces self.now) ≤ 2 * MOST }
         ensures { IfOk result (λ p. pieces p ≡ pieces self.now) }
     {
-        Ok(Pieces {
-            marks: copies(*self.marks.allocator(), self.marks.as_slice())?,
-            tail: self.tail,
-        })
+        let mut own = Pieces::none(self.alloc);
+        own.reserve(self.changes())?;
+        'copies: for cell in self.cells() {
+            own.append_copy(cell)?;
+        }
+        Ok(own)
+    }
+
+    // The pieces of a cell at the end, with values that share what the cell's hold.
+    fn append_copy(&mut self, cell: CellRef<'_>) -> Result<(), AllocError>
+        requires { length (pieces self.old) + length (pieces_in (cell_ref cell)) ≤ 2 * MOST }
+        ensures { OnOk result (pieces self.new ≡ pieces self.old ++ pieces_in (cell_ref cell.entry)) }
+    {
+        let change = match cell {
+            CellRef::Keep(n) => return self.keep(n),
+            CellRef::Update(v, w) => Changed::Updated(v.copy()?, w.copy()?),
+            CellRef::Delete(v) => Changed::Deleted(v.copy()?),
+            CellRef::Insert(w) => Changed::Inserted(w.copy()?),
+        };
+        match self.append(change) {
+            Ok(()) => Ok(()),
+            Err((_change, failed)) => Err(failed),
+        }
+    }
+
+    /// The pieces turned round, in normal form. It takes no memory.
+    pub(crate) fn turned(self) -> Pieces
+        requires { IsNormal (pieces self) }
+        ensures pieces { pieces result ≡ normal (map turned (pieces self)) }
+        ensures room { room result ≡ room self }
+    {
+        let Pieces {
+            mut colours,
+            olds,
+            news,
+            room,
+            alloc,
+        } = self;
+        turn(&mut colours);
+        Pieces {
+            colours,
+            olds: news,
+            news: olds,
+            room,
+            alloc,
+        }
     }
 
     /// How many pieces aren't kept.
     pub(crate) fn changes(&self) -> usize
         ensures { result ≡ changed_len (pieces self.now) }
     {
-        self.marks.len()
+        self.colours.rank(self.colours.len(), CHANGED)
+    }
+
+    /// The place of the first changed piece from a place on, or the number of pieces.
+    pub(crate) fn next_changed(&self, from: usize) -> usize
+        requires { from ≤ length (pieces self.now) }
+        ensures { IsNextChanged (pieces self.now) from result }
+    {
+        let before = self.colours.rank(from, CHANGED);
+        match self.colours.select(before, CHANGED) {
+            Some(found) => found,
+            None => self.colours.len(),
+        }
+    }
+
+    /// The cell of a changed piece.
+    pub(crate) fn cell(&self, place: usize) -> CellRef<'_>
+        requires within { place < length (pieces self.now) }
+        requires changed { is_kept_piece (slice_get (pieces self.now) place) ≡ false }
+        ensures { (x : Piece) → slice_get (pieces self.now) place ≡ Some x → cells_of (x ∷ []) ≡ cell_ref result ∷ [] }
+    {
+        let old = self.colours.rank(place, WITH_OLD);
+        let new = self.colours.rank(place, WITH_NEW);
+        match Kind::of_colour(self.colours.colour(place)) {
+            Kind::Kept => unreachable!(),
+            Kind::Updated => CellRef::Update(self.olds.at(old), self.news.at(new)),
+            Kind::Deleted => CellRef::Delete(self.olds.at(old)),
+            Kind::Inserted => CellRef::Insert(self.news.at(new)),
+        }
+    }
+
+    /// How many pieces there are.
+    pub(crate) fn len(&self) -> usize
+        ensures { result ≡ length (pieces self.now) }
+    {
+        self.colours.len()
     }
 
     /// The cells behind so many changes.
@@ -259,9 +356,24 @@ impl Pieces {
         ensures { cells_rest result ≡ cells_of (after_changes changes (pieces self.now)) }
     {
         Cells {
-            marks: behind(self.marks.as_slice(), changes),
-            tail: self.tail,
-            kept: false,
+            store: self,
+            at: self.behind(changes),
+        }
+    }
+
+    // The place behind so many changed pieces.
+    fn behind(&self, changes: usize) -> usize
+        requires { changes ≤ changed_len (pieces self.now) }
+        ensures within { result ≤ length (pieces self.now) }
+        ensures rest { drop result (pieces self.now) ≡ after_changes changes (pieces self.now) }
+    {
+        if changes == 0 {
+            return 0;
+        }
+        let _few = self.colours.len();
+        match self.colours.select(changes - 1, CHANGED) {
+            Some(last) => last + 1,
+            None => unreachable!(),
         }
     }
 
@@ -269,18 +381,6 @@ impl Pieces {
     pub(crate) fn cells(&self) -> Cells<'_>
         ensures { cells_rest result ≡ cells_of (pieces self.now) }
     {
-        Cells {
-            marks: self.marks.as_slice(),
-            tail: self.tail,
-            kept: false,
-        }
+        Cells { store: self, at: 0 }
     }
-}
-
-// The marks from a place on.
-fn behind(marks: &[Mark], from: usize) -> &[Mark]
-    requires { from ≤ length marks.now }
-    ensures { result.now ≡ drop from marks.now }
-{
-    &marks[from..]
 }

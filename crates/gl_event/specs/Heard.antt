@@ -1,5 +1,5 @@
 -- What contracts see of an event.
-use Rattle.std.specs.Prelude.{◌≡◌, ◌≤◌, ℕ, List, refl}
+use Rattle.std.specs.Prelude.{◌≡◌, ◌+◌, ◌≤◌, ℕ, List, min, refl}
 use Rattle.std.specs.Coded.{Coded, code_by, coded×, coded_ℕ, coded_list}
 use Rattle.spec_lists.specs.Piece.{Piece, piece_code, new_len}
 use Rattle.spec_lists.specs.Changes.{changed_len, standing}
@@ -18,3 +18,7 @@ pub record IsAt (ps : List Piece) (given at : ℕ) : Type 0 where
   pub within : given ≤ changed_len ps
   pub stands : at ≡ standing given ps
   pub few : new_len ps ≤ 2147483647
+
+-- one more change given, if there is one
+abbrev pub further : Heard → Heard
+further h = record { pieces = h.pieces; given = min (h.given + 1) (changed_len h.pieces) }

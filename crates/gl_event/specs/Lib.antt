@@ -1,3 +1,4 @@
 pub mod Changes
+pub mod Blocks
 pub mod Heard
 pub mod Replay

@@ -1,12 +1,16 @@
 //! An event: what became of a list, told as changes one after another.
 
-ghost use Rattle.std.specs.Prelude.{◌≡◌, ◌≤◌};
+ghost use Rattle.std.specs.Prelude.{◌≡◌, ◌+◌, ◌≤◌, ⊤, drop, option_map, slice_get};
 ghost use Rattle.spec_lists.specs.Piece.{old_len};
 ghost use Rattle.spec_lists.specs.Cells.{cells_of};
 ghost use Rattle.spec_lists.specs.Changes.{changes, changed_len};
 ghost use Rattle.gl_delta.specs.Cells.{cells_rest};
-ghost use Rattle.gl_event.specs.Changes.{changes_rest, IsFew};
+ghost use Rattle.gl_event.specs.Blocks.{first_block, block_len};
+ghost use Rattle.gl_event.specs.Changes.{change_ref, changes_rest, IsFew};
+ghost use Rattle.gl_event.specs.Heard.{IsAt};
 
+use crate::block::Block;
+use crate::change::Change;
 use crate::walk::Walk;
 use gl_delta::{Cells, Delta};
 use std::marker::Model;
@@ -34,6 +38,11 @@ impl Model for Event {
 }
 
 impl Event {
+    ghost use Rattle.std.specs.Borrow.{sem, follows_so};
+    ghost use Rattle.gl_event.specs.contracts.event.Event.{the_row};
+    ghost use Rattle.gl_event.specs.Heard.{further};
+    ghost use mathlib.Core.Option.{none};
+
     /// The event of a delta, with no change given. It takes no memory.
     pub fn of(d: Delta) -> Event
         ensures pieces { result.pieces ≡ d.pieces }
@@ -72,6 +81,39 @@ impl Event {
         }
     }
 
+    /// The next change; `None` exactly after the last. It takes no memory.
+    pub fn next(&mut self) -> Option<Change<'_>>
+        ensures gives { option_map change_ref result ≡ slice_get (changes self.old.pieces) self.old.given }
+        ensures* after { sem 𝓛 (follows_so the_row the_row self.entry.ghost_name none (λ _ _. ⊤)
+            (λ n. n ≡ further self.old)) }
+    {
+        let _few = self.delta.changes();
+        let mut walk = rest(&self.delta, self.given, self.at);
+        let change = walk.step()?;
+        self.at = walk.at;
+        self.given += 1;
+        Some(change)
+    }
+
+    /// The next block: the next change, and those behind it of the same kind that go on from it. `None` exactly after
+    /// the last change. It takes no memory, and a step for each change of the block.
+    pub fn next_block(&mut self) -> Option<Block>
+        ensures gives { result ≡ first_block (drop self.old.given (changes self.old.pieces)) }
+        ensures pieces { self.new.pieces ≡ self.old.pieces }
+        ensures given { self.new.given ≡ self.old.given + block_len result }
+    {
+        let _few = self.delta.changes();
+        let mut walk = rest(&self.delta, self.given, self.at);
+        let first = walk.step()?;
+        let kind = first.kind();
+        let start = first.index();
+        let (more, at) = walk.run(kind);
+        let count = more + 1;
+        self.at = at;
+        self.given += count;
+        Some(Block { kind, start, count })
+    }
+
     /// Goes back to the first change.
     pub fn rewind(&mut self)
         ensures pieces { self.new.pieces ≡ self.old.pieces }
@@ -86,5 +128,18 @@ impl Event {
         ensures { cells_rest result ≡ cells_of self.now.pieces }
     {
         self.delta.cells()
+    }
+}
+
+// The changes behind so many, to the left of which so many elements stand.
+fn rest(delta: &Delta, given: usize, at: usize) -> Walk<'_>
+    requires { IsAt delta.now.pieces given at }
+    ensures changes { changes_rest result ≡ drop given (changes delta.now.pieces) }
+    ensures few { IsFew result }
+    ensures at { result.at ≡ at }
+{
+    Walk {
+        cells: delta.cells_from(given),
+        at,
     }
 }

@@ -2,12 +2,16 @@
 //! changes before it left it; and their replay on a list.
 #![tactic(auto)]
 
+mod block;
 mod change;
 mod event;
 pub mod laws;
 mod replaying;
+#[cfg(test)]
+mod tests;
 mod walk;
 
+pub use block::{Block, ChangeKind};
 pub use change::Change;
 pub use event::Event;
 pub use replaying::replay;

@@ -4,5 +4,8 @@ pub mod Composition
 pub mod Leading
 pub mod Replaying
 pub mod Changing
+pub mod Preceding
 pub mod Pairing
+pub mod Joining
 pub mod Lengths
+pub mod Counting

@@ -26,7 +26,8 @@ from_lower : (us : List Pair) (i j k l : ℕ) → k ≤ i → l ≤ j → IsIncr
 from_lower [] i j k l a b h = tt
 from_lower (u ∷ us) i j k l a b h = (omega (arith, h.0), omega (arith, h.1), h.2)
 
-rising : (ps : List Piece) (i j : ℕ) → IsIncreasing i j (pairs_from i j ps)
+-- the pairs of pieces rise from the places where these begin
+pub rising : (ps : List Piece) (i j : ℕ) → IsIncreasing i j (pairs_from i j ps)
 rising [] i j = tt
 rising (kept ∷ ps) i j = (omega arith, omega arith, rising ps (suc i) (suc j))
 rising (updated v w ∷ ps) i j = (omega arith, omega arith, rising ps (suc i) (suc j))

@@ -1,11 +1,12 @@
 -- Laws over all deltas.
-use Rattle.std.specs.Prelude.{◌≡◌, List}
+use Rattle.std.specs.Prelude.{◌≡◌, ◌↔◌, List}
+use Rattle.std.specs.List.{Contains}
 use Rattle.spec_value.specs.Tree.{Tree}
 use Rattle.spec_lists.specs.Piece.{Piece, IsNormal, old_len, new_len, identity}
 use Rattle.spec_lists.specs.Delta.{composed, inverse}
 use Rattle.spec_lists.specs.Leads.{IsDelta}
 use Rattle.spec_lists.specs.Sides.{sides}
-use Rattle.spec_lists.specs.Pairs.{pairs, pairs_of_old, pairs_of_new, IsIncreasing}
+use Rattle.spec_lists.specs.Pairs.{Pair, pairs, pairs_of_old, pairs_of_new, IsIncreasing, IsJoined}
 use Rattle.spec_lists.specs.Changes.{changes, replay}
 
 -- the changes of a delta from one list to another, replayed on the first, give the second
@@ -20,6 +21,13 @@ CompositionLeads =
 -- the inverse leads back
 abbrev pub InverseLeadsBack : Type 0
 InverseLeadsBack = (p : List Piece) (xs ys : List Tree) → IsDelta p xs ys → IsDelta (inverse p) ys xs
+
+-- A pair (i, k) is one of a composition exactly where some (i, j) is one of the first delta and (j, k) of the second;
+-- it is updated where either is.
+abbrev pub CompositionJoinsPairs : Type 0
+CompositionJoinsPairs =
+    (p q : List Piece) → new_len p ≡ old_len q → (both : Pair)
+    → Contains (pairs (composed p q)) both ↔ ((first second : Pair) × Contains (pairs p) first × Contains (pairs q) second × IsJoined first second both)
 
 -- composition is associative
 abbrev pub CompositionIsAssociative : Type 0

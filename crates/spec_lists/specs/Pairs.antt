@@ -1,5 +1,5 @@
 -- The pairs of a delta: which old place became which new place.
-use Rattle.std.specs.Prelude.{◌≤◌, ℕ, suc, List, [], ◌∷◌, Bool, true, false}
+use Rattle.std.specs.Prelude.{◌≡◌, ◌≤◌, ◌||◌, ℕ, suc, List, [], ◌∷◌, Bool, true, false}
 use Rattle.spec_lists.specs.Piece.{Piece, kept, updated, deleted, inserted}
 use Rattle.spec_lists.specs.Sides.{Item, plain, changed, lone}
 
@@ -37,3 +37,10 @@ pairs_of_new j (lone w ∷ ys) = pairs_of_new (suc j) ys
 abbrev pub IsIncreasing : ℕ → ℕ → List Pair → Type 0
 IsIncreasing i j [] = Unit {0}
 IsIncreasing i j (p ∷ ps) = (i ≤ p.old) × (j ≤ p.new) × IsIncreasing (suc p.old) (suc p.new) ps
+
+-- the first pair and then the second are the third in one, updated where either is
+pub record IsJoined (first second both : Pair) : Type 0 where
+  pub meet : first.new ≡ second.old
+  pub from : both.old ≡ first.old
+  pub to : both.new ≡ second.new
+  pub is_updated : both.updated ≡ (first.updated || second.updated)

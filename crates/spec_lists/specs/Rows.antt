@@ -40,7 +40,7 @@ updated_and_removed : changes (composed (composed (identity 1) (one_set 1 0 (num
 updated_and_removed = refl
 
 -- two deletions have one index, since the second element moves up
-abbrev two_for_one : List Piece
+abbrev pub two_for_one : List Piece
 two_for_one = deleted (num (pos 4)) ∷ deleted (num (pos 5)) ∷ inserted (num (pos 1)) ∷ []
 
 two_for_one_changes : changes two_for_one ≡ delete_at 0 (num (pos 4)) ∷ delete_at 0 (num (pos 5)) ∷ insertion 0 (num (pos 1)) ∷ []

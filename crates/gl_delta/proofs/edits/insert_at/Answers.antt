@@ -1,4 +1,4 @@
-use Rattle.std.proofs.Common.{◌≡◌, ◌∙◌, List, sym, subst}
+use Rattle.std.proofs.Common.{◌∙◌, List, sym, subst}
 use Rattle.spec_lists.specs.Piece.{Piece, IsNormal}
 use Rattle.gl_delta.specs.Pieces.{pieces}
 use Rattle.gl_delta.proofs.EditLemmas.{inserted_at}

@@ -1,11 +1,10 @@
-use Rattle.std.proofs.Common.{◌≡◌, ◌∙◌, ◌++◌, ◌∷◌, [], true, false, List, length, sym, subst}
-use Rattle.std.specs.Prelude.{OnOk}
+use Rattle.std.proofs.Common.{◌≡◌, ◌∙◌, true, false, List, sym, subst}
 use Rattle.std.proofs.lemmas.Result.{on_ok_weaker}
 use Rattle.spec_lists.specs.Piece.{Piece}
 use Rattle.gl_delta.specs.declared.mark.Side.TheVariants.{New}
 use Rattle.gl_delta.specs.Marks.{piece_of, IsOn}
 use Rattle.gl_delta.specs.Pieces.{pieces, IsPushed}
-use Rattle.gl_delta.proofs.EditLemmas.{pushed_new, selected_end, end_parts, pushed_deleted}
+use Rattle.gl_delta.proofs.PushLemmas.{pushed_new, selected_end, end_parts, pushed_deleted}
 use Rattle.gl_delta.proofs.edits.push.Goals as goal
 
 pub returns-then-is_on-clause-ok : goal.returns-then-is_on-clause-ok

@@ -1,10 +1,11 @@
-use Rattle.std.proofs.Common.{◌≡◌, ◌∙◌, ◌++◌, ◌∷◌, ◌≤◌, List, Some, Bool, true, false, slice_get, length, take, drop, suc, ap, sym, subst}
+use Rattle.std.proofs.Common.{◌≡◌, ◌∙◌, ◌++◌, ◌∷◌, List, Some, true, false, slice_get, take, drop, suc, ap, sym, subst}
 use Rattle.std.specs.List.{insert, remove}
 use Rattle.spec_lists.specs.Piece.{Piece, kept, deleted, new_len}
 use Rattle.spec_lists.specs.Delta.{one_remove}
 use Rattle.gl_delta.specs.Marks.{piece_of}
-use Rattle.gl_delta.specs.Pieces.{pieces, is_kept_piece, is_inserted_piece, first_of, IsComposed}
-use Rattle.gl_delta.proofs.EditLemmas.{kept_from_test, struck_parts, struck_kept, struck_changed, struck_inserted, taken_put}
+use Rattle.gl_delta.specs.Pieces.{pieces, is_inserted_piece, first_of, IsComposed}
+use Rattle.gl_delta.proofs.CutLemmas.{kept_from_test, taken_put}
+use Rattle.gl_delta.proofs.EditLemmas.{struck_parts, struck_kept, struck_changed, struck_inserted}
 use Rattle.gl_delta.proofs.edits.remove_at.Goals as goal
 
 pub settle-requires-clause-front : goal.settle-requires-clause-front

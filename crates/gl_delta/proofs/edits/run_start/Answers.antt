@@ -1,7 +1,8 @@
-use Rattle.std.proofs.Common.{◌≡◌, ◌∙◌, ◌-◌, ◌<◌, ◌≤◌, ℕ, suc, List, Bool, true, false, length, take, drop, slice_get, sym, subst, arith}
+use Rattle.std.proofs.Common.{◌≡◌, ◌∙◌, ◌-◌, ℕ, suc, true, false, take, drop, slice_get, sym, subst, arith}
 use Rattle.spec_lists.specs.Piece.{IsNormal}
 use Rattle.gl_delta.specs.Pieces.{pieces, AllInserted, EndsUninserted, is_inserted_piece}
-use Rattle.gl_delta.proofs.EditLemmas.{run_more, ends_at, normal_take}
+use Rattle.gl_delta.proofs.FormLemmas.{ends_at, normal_take}
+use Rattle.gl_delta.proofs.SettleLemmas.{run_more}
 use Rattle.gl_delta.proofs.edits.run_start.Goals as goal
 
 pub loop-start-preserved : goal.loop-start-preserved

@@ -1,4 +1,4 @@
-use Rattle.std.proofs.Common.{◌-◌, ◌≤◌, ℕ, take, drop}
+use Rattle.std.proofs.Common.{◌-◌, ◌≤◌, take, drop}
 use Rattle.gl_delta.specs.Pieces.{pieces, AllInserted}
 use Rattle.gl_delta.proofs.edits.run_start.Given as goal
 

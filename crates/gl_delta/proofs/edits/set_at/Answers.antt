@@ -1,11 +1,12 @@
-use Rattle.std.proofs.Common.{◌≡◌, ◌∙◌, ◌++◌, ◌∷◌, List, Some, true, slice_get, take, drop, suc, ap, sym, subst}
+use Rattle.std.proofs.Common.{◌≡◌, ◌∙◌, List, Some, slice_get, ap, sym, subst}
 use Rattle.std.specs.List.{insert, remove}
-use Rattle.spec_lists.specs.Piece.{Piece, kept, updated, new_len}
+use Rattle.spec_lists.specs.Piece.{Piece, kept, new_len}
 use Rattle.spec_lists.specs.Delta.{one_set}
 use Rattle.gl_delta.specs.declared.mark.Changed.{Changed}
 use Rattle.gl_delta.specs.Marks.{piece_of}
-use Rattle.gl_delta.specs.Pieces.{pieces, is_kept_piece, with_new, IsComposed}
-use Rattle.gl_delta.proofs.EditLemmas.{kept_from_test, set_changed, set_fresh, on_new}
+use Rattle.gl_delta.specs.Pieces.{pieces, with_new, IsComposed}
+use Rattle.gl_delta.proofs.CutLemmas.{kept_from_test}
+use Rattle.gl_delta.proofs.EditLemmas.{set_changed, set_fresh, on_new}
 use Rattle.gl_delta.proofs.edits.set_at.Goals as goal
 
 pub returns-in-Ok-clause-ok : goal.returns-in-Ok-clause-ok

@@ -1,11 +1,11 @@
-use Rattle.std.proofs.Common.{◌≡◌, ◌∙◌, ◌+◌, ◌-◌, ◌<◌, ◌≤◌, List, Some, Bool, true, false, length, slice_get, ap, sym, subst, arith}
+use Rattle.std.proofs.Common.{◌≡◌, ◌∙◌, ◌+◌, ◌-◌, ◌<◌, List, true, false, length, slice_get, ap, sym, subst, arith}
 use Rattle.std.specs.List.{insert, remove}
 use Rattle.std.proofs.lemmas.Option.{slice_get_within, same_Some}
-use Rattle.spec_value.specs.Tree.{Tree}
 use Rattle.spec_lists.specs.Piece.{Piece, deleted}
 use Rattle.gl_delta.specs.Marks.{piece_of}
-use Rattle.gl_delta.specs.Pieces.{pieces, room, is_deleted_piece}
-use Rattle.gl_delta.proofs.EditLemmas.{IsMoved, moved_more, moved_end, deleted_from_test, settled_already}
+use Rattle.gl_delta.specs.Pieces.{pieces, is_deleted_piece}
+use Rattle.gl_delta.proofs.CutLemmas.{deleted_from_test}
+use Rattle.gl_delta.proofs.SettleLemmas.{IsMoved, moved_more, moved_end, settled_already}
 use Rattle.gl_delta.proofs.edits.settle.Goals as goal
 
 pub returns-then-to-at-clause-value : goal.returns-then-to-at-clause-value

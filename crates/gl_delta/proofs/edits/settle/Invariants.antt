@@ -1,6 +1,6 @@
-use Rattle.std.proofs.Common.{◌-◌, ◌≤◌, ℕ, length}
+use Rattle.std.proofs.Common.{◌-◌, ◌≤◌, length}
 use Rattle.gl_delta.specs.Pieces.{pieces, room}
-use Rattle.gl_delta.proofs.EditLemmas.{IsMoved}
+use Rattle.gl_delta.proofs.SettleLemmas.{IsMoved}
 use Rattle.gl_delta.proofs.edits.settle.Given as goal
 
 abbrev pub invariant-moves : goal.invariant-moves

@@ -1,8 +1,8 @@
-use Rattle.std.proofs.Common.{◌≡◌, ◌∙◌, ◌∷◌, ◌+◌, ◌≤◌, ap, arith}
+use Rattle.std.proofs.Common.{◌≡◌, ◌∙◌, ◌∷◌, ap, arith}
 use Rattle.spec_lists.specs.Cells.{update, delete}
 use Rattle.gl_delta.specs.declared.cell.CellRef.{CellRef}
 use Rattle.gl_delta.specs.Cells.{cell_ref, cells_rest}
-use Rattle.gl_event.specs.Replay.{applied_cells, old_count}
+use Rattle.gl_event.specs.Replay.{old_count}
 use Rattle.gl_event.proofs.CellLemmas.{updated_more, deleted_more}
 use Rattle.gl_event.proofs.replaying.applied.Goals as goal
 

@@ -1,4 +1,4 @@
-use Rattle.std.proofs.Common.{◌≡◌, ◌++◌, ◌+◌, ◌≤◌, ℕ, length, drop}
+use Rattle.std.proofs.Common.{◌≡◌, ◌++◌, ◌+◌, ◌≤◌, length, drop}
 use Rattle.gl_delta.specs.Cells.{cells_rest}
 use Rattle.gl_event.specs.Replay.{applied_cells, old_count}
 use Rattle.gl_event.proofs.replaying.applied.Given as goal

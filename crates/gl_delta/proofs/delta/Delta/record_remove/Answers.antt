@@ -1,4 +1,4 @@
-use Rattle.std.proofs.Common.{◌≡◌, ◌<◌, ap, arith}
+use Rattle.std.proofs.Common.{◌≡◌, ◌<◌, ap}
 use Rattle.spec_lists.specs.Piece.{new_len}
 use Rattle.gl_delta.specs.Told.{Told}
 use Rattle.gl_delta.specs.Pieces.{pieces}

@@ -1,0 +1,5 @@
+use Rattle.spec_lists.proofs.Joining.{composition_joins_pairs as law}
+use Rattle.gl_delta.proofs.laws.composition_joins_pairs.Goals as goal
+
+pub returns : goal.returns
+returns c = law
