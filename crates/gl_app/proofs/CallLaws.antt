@@ -15,7 +15,7 @@ use Rattle.gl_app.specs.Status.{status_of}
 use Rattle.gl_app.specs.Reading.{Took}
 use Rattle.gl_app.specs.Answer.{status_at, text_at, IsOf}
 use Rattle.gl_app.specs.Call.{Tells, AnswersReplay, AnswersWords, Answered, Begun, IsAnswer, Gives, ReportsRun, MostText, IsAhead, HasRead, IsUsage}
-use Rattle.gl_app.proofs.ViewLaws.{views_of_spelled}
+use Rattle.gl_app.proofs.ViewLaws.{views_of_spelled, hears_of_spelled}
 
 longer_than : (all taken rest : List ℕ) → all ≡ taken ++ rest → most_bytes < length taken → most_bytes < length all
 longer_than all taken rest e many = omega (arith, ap length e, length-append taken rest)
@@ -80,6 +80,7 @@ reported_run words held old new bytes (reported text) told comes e taken = recor
   fits = comes.2.3;
   taken = subst (Appends old new) comes.2.4 taken;
   views = λ n. views_of_spelled bytes comes.2.1 (take n comes.0) comes.2.2;
+  listeners = hears_of_spelled bytes comes.2.1 comes.2.2;
 }
 
 -- with the status Done a run was reported

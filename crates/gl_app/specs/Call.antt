@@ -6,6 +6,7 @@ use Rattle.gl_outside.specs.Sink.{AppendsFront}
 use Rattle.spec_runs.specs.Plan.{Plan}
 use Rattle.spec_runs.specs.Fits.{Fits}
 use Rattle.spec_runs.specs.Shown.{EachShowsItsView}
+use Rattle.spec_runs.specs.Laws.{EachHears}
 use Rattle.spec_runs.specs.Run.{run}
 use Rattle.spec_texts.specs.Order.{AsksReplay}
 use Rattle.spec_texts.specs.PlanText.{Spells}
@@ -99,7 +100,8 @@ Gives old new a Write = AppendsFront old new (text_at a)
 Gives old new a status = (status ≡ status_at a) × Appends old new (text_at a)
 
 -- The sink took the report of the plan that the bytes spell, in the order that the words ask for, which fits it. At
--- each moment of its run each list shows its view of what its inputs show.
+-- each moment of its run each list shows its view of what its inputs show. Each listener is told once of each entry that
+-- changes its list, and of no other, and replaying what it was told gives what its list shows.
 pub record ReportsRun (words : List (List ℕ)) (held old new : Option (List ℕ)) : Type 0 where
   pub bytes : List ℕ
   pub told : Tells held bytes
@@ -110,6 +112,7 @@ pub record ReportsRun (words : List (List ℕ)) (held old new : Option (List ℕ
   pub fits : Fits plan order
   pub taken : Appends old new (report plan order)
   pub views : (n : ℕ) → EachShowsItsView (run plan (take n order)).state
+  pub listeners : EachHears plan
 
 -- no text that the words and the source's bytes may come to is longer
 abbrev pub MostText : List (List ℕ) → Option (List ℕ) → ℕ → Type 0

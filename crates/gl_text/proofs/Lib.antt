@@ -5,3 +5,4 @@ pub mod LineAgain
 pub mod TextLaws
 pub mod Names
 pub mod BlockLaws
+pub mod Growth

@@ -11,8 +11,8 @@ use Rattle.std.proofs.lemmas.Str.Parse.{digit_from_value}
 use Rattle.gl_types.specs.declared.matcher.Matcher.{Matcher}
 use Rattle.gl_types.specs.declared.matcher.Matcher.TheVariants.{All, Nothing, Equals}
 use Rattle.spec_value.specs.Name.{is_name, is_lower, is_digit, is_name_byte}
-use Rattle.spec_texts.specs.Line.{Line, source_line, filter_line, writer_line, section_line, add_line, remove_line, spelled_matcher, spelled_line, FitsMatcher, IsLine}
-use Rattle.gl_text.specs.Reading.{name_ahead, matcher_in, source_in, filter_in, add_in, remove_in, fields_in, line_in}
+use Rattle.spec_texts.specs.Line.{Line, source_line, row_line, filter_line, listen_line, writer_line, section_line, add_line, insert_line, set_line, remove_line, spelled_matcher, spelled_line, FitsMatcher, IsLine}
+use Rattle.gl_text.specs.Reading.{name_ahead, index_ahead, on_list, matcher_in, source_in, row_in, filter_in, listen_in, add_in, insert_in, set_in, remove_in, edit_in, fields_in, line_in}
 use Rattle.gl_text.proofs.CutLaws.{lacks, lacks-append, cut_again}
 use Rattle.gl_text.proofs.NumberLaws.{number_again, index_again}
 
@@ -88,6 +88,30 @@ add_again : (source : List ℕ) (n : ℤ) → is_name source ≡ true → FitsSi
 unfolding add_in
 add_again source n e fits = rw (name_again source (signed_decimal n) e, number_again n fits) refl
 
+row_again : (source : List ℕ) (n : ℤ) → is_name source ≡ true → FitsSigned w64 n → row_in (source ++ 32 ∷ signed_decimal n) ≡ Some (row_line source n)
+unfolding row_in
+row_again source n e fits = rw (name_again source (signed_decimal n) e, number_again n fits) refl
+
+on_again : (list : List ℕ) → is_name list ≡ true → on_list (codes "on " ++ list) ≡ Some list
+unfolding on_list
+on_again list e = rw e refl
+
+listen_again : (name list : List ℕ) → is_name name ≡ true → is_name list ≡ true → listen_in (name ++ 32 ∷ (codes "on " ++ list)) ≡ Some (listen_line name list)
+unfolding listen_in
+listen_again name list e f = rw (name_again name (codes "on " ++ list) e, on_again list f) refl
+
+index_ahead_again : (n : ℕ) (rest : List ℕ) → n < 2 ^ 32 → index_ahead (decimal n ++ 32 ∷ rest) ≡ Some (n, rest)
+unfolding index_ahead
+index_ahead_again n rest small = rw (cut_again 32 (decimal n) rest (decimal_lacks 32 n (omega arith) (omega arith)), index_again n small) refl
+
+insert_again : (source : List ℕ) (index : ℕ) (n : ℤ) → is_name source ≡ true → index < 2 ^ 32 → FitsSigned w64 n → insert_in (source ++ 32 ∷ (decimal index ++ 32 ∷ signed_decimal n)) ≡ Some (insert_line source index n)
+unfolding insert_in
+insert_again source index n e small fits = rw (name_again source (decimal index ++ 32 ∷ signed_decimal n) e, index_ahead_again index (signed_decimal n) small, number_again n fits) refl
+
+set_again : (source : List ℕ) (index : ℕ) (n : ℤ) → is_name source ≡ true → index < 2 ^ 32 → FitsSigned w64 n → set_in (source ++ 32 ∷ (decimal index ++ 32 ∷ signed_decimal n)) ≡ Some (set_line source index n)
+unfolding set_in
+set_again source index n e small fits = rw (name_again source (decimal index ++ 32 ∷ signed_decimal n) e, index_ahead_again index (signed_decimal n) small, number_again n fits) refl
+
 remove_again : (source : List ℕ) (n : ℕ) → is_name source ≡ true → n < 2 ^ 32 → remove_in (source ++ 32 ∷ decimal n) ≡ Some (remove_line source n)
 unfolding remove_in
 remove_again source n e small = rw (name_again source (decimal n) e, index_again n small) refl
@@ -99,13 +123,23 @@ grouped_filter name input matcher = simp append_assoc
 grouped_two : (front field last : List ℕ) → front ++ field ++ codes " " ++ last ≡ front ++ (field ++ 32 ∷ last)
 grouped_two front field last = simp append_assoc
 
+grouped_three : (front field place last : List ℕ) → front ++ field ++ codes " " ++ place ++ codes " " ++ last ≡ front ++ (field ++ 32 ∷ (place ++ 32 ∷ last))
+grouped_three front field place last = simp append_assoc
+
+grouped_listen : (name list : List ℕ) → codes "listen " ++ name ++ codes " on " ++ list ≡ codes "listen " ++ (name ++ 32 ∷ (codes "on " ++ list))
+grouped_listen name list = simp append_assoc
+
 pub line_again : (line : Line) → IsLine line → line_in (spelled_line line) ≡ Some line
-unfolding line_in fields_in
+unfolding line_in fields_in edit_in
 line_again (source_line name) is = rw (source_again name is) refl
+line_again (row_line source n) is = ap line_in (grouped_two (codes "row ") source (signed_decimal n)) ∙ rw (row_again source n is.0 is.1) refl
 line_again (filter_line name input m) is = ap line_in (grouped_filter name input (spelled_matcher m)) ∙ rw (filter_again name input m is.0 is.1 is.2) refl
+line_again (listen_line name list) is = ap line_in (grouped_listen name list) ∙ rw (listen_again name list is.0 is.1) refl
 line_again writer_line is = refl
 line_again section_line is = refl
 line_again (add_line source n) is = ap line_in (grouped_two (codes "add ") source (signed_decimal n)) ∙ rw (add_again source n is.0 is.1) refl
+line_again (insert_line source index n) is = ap line_in (grouped_three (codes "insert ") source (decimal index) (signed_decimal n)) ∙ rw (insert_again source index n is.0 is.1 is.2) refl
+line_again (set_line source index n) is = ap line_in (grouped_three (codes "set ") source (decimal index) (signed_decimal n)) ∙ rw (set_again source index n is.0 is.1 is.2) refl
 line_again (remove_line source n) is = ap line_in (grouped_two (codes "remove ") source (decimal n)) ∙ rw (remove_again source n is.0 is.1) refl
 
 -- ---- a line has no line feed in it
@@ -118,21 +152,33 @@ matcher_lacks (Equals n) fits = lacks-append 10 (codes ". = ") (signed_decimal n
 two_lack : (front field last : List ℕ) → lacks 10 front ≡ true → is_name field ≡ true → lacks 10 last ≡ true → lacks 10 (front ++ field ++ codes " " ++ last) ≡ true
 two_lack front field last p e q = lacks-append 10 (front ++ field ++ codes " ") last (lacks-append 10 (front ++ field) (codes " ") (lacks-append 10 front field p (name_lacks 10 field (omega arith) e)) refl) q
 
+three_lack : (front field : List ℕ) (index : ℕ) (last : List ℕ) → lacks 10 front ≡ true → is_name field ≡ true → index < 2 ^ 32 → lacks 10 last ≡ true → lacks 10 (front ++ field ++ codes " " ++ decimal index ++ codes " " ++ last) ≡ true
+three_lack front field index last p e small q =
+    lacks-append 10 (front ++ field ++ codes " " ++ decimal index ++ codes " ") last (lacks-append 10 (front ++ field ++ codes " " ++ decimal index) (codes " ") (two_lack front field (decimal index) p e (decimal_lacks 10 index (omega arith) (omega (arith, small)))) refl) q
+
 pub line_lacks : (line : Line) → IsLine line → lacks 10 (spelled_line line) ≡ true
 line_lacks (source_line name) is = lacks-append 10 (codes "source ") name refl (name_lacks 10 name (omega arith) is)
+line_lacks (row_line source n) is = two_lack (codes "row ") source (signed_decimal n) refl is.0 (signed_lacks 10 n (omega arith) is.1)
 line_lacks (filter_line name input m) is =
     let front = lacks-append 10 (codes "filter " ++ name) (codes " ") (lacks-append 10 (codes "filter ") name refl (name_lacks 10 name (omega arith) is.0)) refl in
     two_lack (codes "filter " ++ name ++ codes " ") input (spelled_matcher m) front is.1 (matcher_lacks m is.2)
+line_lacks (listen_line name list) is = lacks-append 10 (codes "listen " ++ name ++ codes " on ") list (lacks-append 10 (codes "listen " ++ name) (codes " on ") (lacks-append 10 (codes "listen ") name refl (name_lacks 10 name (omega arith) is.0)) refl) (name_lacks 10 list (omega arith) is.1)
 line_lacks writer_line is = refl
 line_lacks section_line is = refl
 line_lacks (add_line source n) is = two_lack (codes "add ") source (signed_decimal n) refl is.0 (signed_lacks 10 n (omega arith) is.1)
+line_lacks (insert_line source index n) is = three_lack (codes "insert ") source index (signed_decimal n) refl is.0 is.1 (signed_lacks 10 n (omega arith) is.2)
+line_lacks (set_line source index n) is = three_lack (codes "set ") source index (signed_decimal n) refl is.0 is.1 (signed_lacks 10 n (omega arith) is.2)
 line_lacks (remove_line source n) is = let small : n < 2 ^ 32 = is.1 in two_lack (codes "remove ") source (decimal n) refl is.0 (decimal_lacks 10 n (omega arith) (omega arith))
 
 -- and it is not empty
 pub line_begins : (line : Line) → (spelled_line line ≡ [] → ⊥)
 line_begins (source_line name) e = cc
+line_begins (row_line source n) e = cc
 line_begins (filter_line name input m) e = cc
+line_begins (listen_line name list) e = cc
 line_begins writer_line e = cc
 line_begins section_line e = cc
 line_begins (add_line source n) e = cc
+line_begins (insert_line source index n) e = cc
+line_begins (set_line source index n) e = cc
 line_begins (remove_line source n) e = cc

@@ -1,5 +1,5 @@
 -- Lines: what is read is spelled so, and what is spelled so is read.
-use Rattle.std.proofs.Common.{◌≡◌, ℕ, ℤ, Bool, true, false, cond, List, ◌∷◌, ◌++◌, length, take, drop, Option, Some, None, refl, sym, ap, subst, ◌∙◌, append_assoc, take-append-drop, inl, inr, ◌⊎◌}
+use Rattle.std.proofs.Common.{◌≡◌, ℕ, ℤ, Bool, ◌<◌, ◌^◌, true, false, cond, List, ◌∷◌, ◌++◌, length, take, drop, Option, Some, None, refl, sym, ap, subst, ◌∙◌, append_assoc, take-append-drop, inl, inr, ◌⊎◌}
 use Rattle.std.specs.Prelude.{codes, decimal, bytes_eq, option_map}
 use Rattle.std.specs.Fmt.{signed_decimal}
 use Rattle.std.proofs.lemmas.List.{take-append-drop}
@@ -8,10 +8,10 @@ use Rattle.std.proofs.lemmas.Slice.Eq.{bytes_eq-Decides}
 use Rattle.gl_types.specs.declared.matcher.Matcher.{Matcher}
 use Rattle.gl_types.specs.declared.matcher.Matcher.TheVariants.{All, Nothing, Equals}
 use Rattle.spec_value.specs.Name.{is_name}
-use Rattle.spec_texts.specs.Line.{Line, source_line, filter_line, writer_line, section_line, add_line, remove_line, spelled_matcher, spelled_line, FitsMatcher, IsLine}
+use Rattle.spec_texts.specs.Line.{Line, source_line, row_line, filter_line, listen_line, writer_line, section_line, add_line, insert_line, set_line, remove_line, spelled_matcher, spelled_line, FitsMatcher, IsLine}
 use Rattle.gl_text.specs.Numbers.{number_in, index_in}
 use Rattle.gl_text.specs.Cuts.{cut, behind}
-use Rattle.gl_text.specs.Reading.{◌>>=◌, name_ahead, matcher_in, source_in, filter_in, add_in, remove_in, fields_in, line_in}
+use Rattle.gl_text.specs.Reading.{◌>>=◌, name_ahead, index_ahead, on_list, matcher_in, source_in, row_in, filter_in, listen_in, add_in, insert_in, set_in, remove_in, edit_in, fields_in, line_in}
 use Rattle.gl_text.proofs.CutLaws.{cut_takes}
 use Rattle.gl_text.proofs.NumberLaws.{number_takes, index_takes}
 
@@ -94,6 +94,29 @@ filter_takes bs line e =
     let third = matcher_takes b.0.1 c.0 c.1 in
     subst (IsLineBehind (codes "filter") bs) (same_Some _ _ c.2) ((first.1, second.1, third.0), filter_is bs a.0.0 a.0.1 b.0.0 b.0.1 (spelled_matcher c.0) first.0 second.0 third.1)
 
+row_takes : (bs : List ℕ) (line : Line) → row_in bs ≡ Some line → IsLineBehind (codes "row") bs line
+unfolding row_in
+row_takes bs line e =
+    let a = bind_some (name_ahead bs) (λ (source : List ℕ × List ℕ). number_in source.1 >>= λ number. Some (row_line source.0 number)) line e in
+    let b = bind_some (number_in a.0.1) (λ number. Some (row_line a.0.0 number)) line a.2 in
+    let first = name_takes bs a.0 a.1 in
+    let second = number_takes a.0.1 b.0 b.1 in
+    subst (IsLineBehind (codes "row") bs) (same_Some _ _ b.2) ((first.1, second.0), field_is (codes "row") bs a.0.0 a.0.1 (signed_decimal b.0) first.0 second.1)
+
+listen_is : (bs name rest list : List ℕ) → bs ≡ name ++ 32 ∷ rest → rest ≡ codes "on " ++ list → codes "listen" ++ 32 ∷ bs ≡ codes "listen " ++ name ++ codes " on " ++ list
+listen_is bs name rest list first second = ap (λ xs. codes "listen" ++ 32 ∷ xs) first ∙ ap (λ xs. codes "listen" ++ 32 ∷ (name ++ 32 ∷ xs)) second ∙ sym (simp append_assoc)
+
+listen_takes : (bs : List ℕ) (line : Line) → listen_in bs ≡ Some line → IsLineBehind (codes "listen") bs line
+unfolding listen_in on_list
+listen_takes bs line e =
+    let a = bind_some (name_ahead bs) (λ (name : List ℕ × List ℕ). (behind (codes "on ") name.1 >>= λ list. cond (is_name list) (Some list) None) >>= λ list. Some (listen_line name.0 list)) line e in
+    let b = bind_some (behind (codes "on ") a.0.1 >>= λ list. cond (is_name list) (Some list) None) (λ list. Some (listen_line a.0.0 list)) line a.2 in
+    let c = bind_some (behind (codes "on ") a.0.1) (λ list. cond (is_name list) (Some list) None) b.0 b.1 in
+    let first = name_takes bs a.0 a.1 in
+    let g = cond_some (is_name c.0) c.0 b.0 c.2 in
+    let second = behind_takes (codes "on ") a.0.1 c.0 c.1 ∙ ap (λ list. codes "on " ++ list) g.1 in
+    subst (IsLineBehind (codes "listen") bs) (same_Some _ _ b.2) ((first.1, subst (λ list. is_name list ≡ true) g.1 g.0), listen_is bs a.0.0 a.0.1 b.0 first.0 second)
+
 add_takes : (bs : List ℕ) (line : Line) → add_in bs ≡ Some line → IsLineBehind (codes "add") bs line
 unfolding add_in
 add_takes bs line e =
@@ -102,6 +125,40 @@ add_takes bs line e =
     let first = name_takes bs a.0 a.1 in
     let second = number_takes a.0.1 b.0 b.1 in
     subst (IsLineBehind (codes "add") bs) (same_Some _ _ b.2) ((first.1, second.0), field_is (codes "add") bs a.0.0 a.0.1 (signed_decimal b.0) first.0 second.1)
+
+index_ahead_takes : (bs : List ℕ) (parts : ℕ × List ℕ) → index_ahead bs ≡ Some parts → (bs ≡ decimal parts.0 ++ 32 ∷ parts.1) × (parts.0 < 2 ^ 32)
+unfolding index_ahead
+index_ahead_takes bs parts e =
+    let a = bind_some (cut 32 bs) (λ (x : List ℕ × List ℕ). index_in x.0 >>= λ index. Some (index, x.1)) parts e in
+    let b = bind_some (index_in a.0.0) (λ index. Some (index, a.0.1)) parts a.2 in
+    let spelled = index_takes a.0.0 b.0 b.1 in
+    subst (λ (y : ℕ × List ℕ). (bs ≡ decimal y.0 ++ 32 ∷ y.1) × (y.0 < 2 ^ 32)) (same_Some _ _ b.2) (cut_takes 32 bs a.0 a.1 ∙ ap (λ front. front ++ 32 ∷ a.0.1) spelled.1, spelled.0)
+
+place_is : (keyword bs source more rest index number : List ℕ) → bs ≡ source ++ 32 ∷ more → more ≡ index ++ 32 ∷ rest → rest ≡ number → keyword ++ 32 ∷ bs ≡ keyword ++ codes " " ++ source ++ codes " " ++ index ++ codes " " ++ number
+place_is keyword bs source more rest index number first second third =
+    field_is keyword bs source more (index ++ 32 ∷ number) first (second ∙ ap (λ xs. index ++ 32 ∷ xs) third) ∙ sym (simp append_assoc)
+
+insert_takes : (bs : List ℕ) (line : Line) → insert_in bs ≡ Some line → IsLineBehind (codes "insert") bs line
+unfolding insert_in
+insert_takes bs line e =
+    let a = bind_some (name_ahead bs) (λ (source : List ℕ × List ℕ). index_ahead source.1 >>= λ (place : ℕ × List ℕ). number_in place.1 >>= λ number. Some (insert_line source.0 place.0 number)) line e in
+    let b = bind_some (index_ahead a.0.1) (λ (place : ℕ × List ℕ). number_in place.1 >>= λ number. Some (insert_line a.0.0 place.0 number)) line a.2 in
+    let c = bind_some (number_in b.0.1) (λ number. Some (insert_line a.0.0 b.0.0 number)) line b.2 in
+    let first = name_takes bs a.0 a.1 in
+    let second = index_ahead_takes a.0.1 b.0 b.1 in
+    let third = number_takes b.0.1 c.0 c.1 in
+    subst (IsLineBehind (codes "insert") bs) (same_Some _ _ c.2) ((first.1, second.1, third.0), place_is (codes "insert") bs a.0.0 a.0.1 b.0.1 (decimal b.0.0) (signed_decimal c.0) first.0 second.0 third.1)
+
+set_takes : (bs : List ℕ) (line : Line) → set_in bs ≡ Some line → IsLineBehind (codes "set") bs line
+unfolding set_in
+set_takes bs line e =
+    let a = bind_some (name_ahead bs) (λ (source : List ℕ × List ℕ). index_ahead source.1 >>= λ (place : ℕ × List ℕ). number_in place.1 >>= λ number. Some (set_line source.0 place.0 number)) line e in
+    let b = bind_some (index_ahead a.0.1) (λ (place : ℕ × List ℕ). number_in place.1 >>= λ number. Some (set_line a.0.0 place.0 number)) line a.2 in
+    let c = bind_some (number_in b.0.1) (λ number. Some (set_line a.0.0 b.0.0 number)) line b.2 in
+    let first = name_takes bs a.0 a.1 in
+    let second = index_ahead_takes a.0.1 b.0 b.1 in
+    let third = number_takes b.0.1 c.0 c.1 in
+    subst (IsLineBehind (codes "set") bs) (same_Some _ _ c.2) ((first.1, second.1, third.0), place_is (codes "set") bs a.0.0 a.0.1 b.0.1 (decimal b.0.0) (signed_decimal c.0) first.0 second.0 third.1)
 
 remove_takes : (bs : List ℕ) (line : Line) → remove_in bs ≡ Some line → IsLineBehind (codes "remove") bs line
 unfolding remove_in
@@ -116,28 +173,30 @@ remove_takes bs line e =
 at_keyword : (keyword word : List ℕ) (bs : List ℕ) (line : Line) → bytes_eq keyword word ≡ true → IsLineBehind word bs line → IsLineBehind keyword bs line
 at_keyword keyword word bs line e found = subst (λ k. IsLineBehind k bs line) (sym (same_bytes keyword word e)) found
 
+-- of two readers by the keyword the one that gave the line
+either_takes : (keyword word bs : List ℕ) (here others : Option Line) (line : Line) → (here ≡ Some line → IsLineBehind word bs line) → (others ≡ Some line → IsLineBehind keyword bs line) → cond (bytes_eq keyword word) here others ≡ Some line → IsLineBehind keyword bs line
+either_takes keyword word bs here others line first rest e = elim (chosen (bytes_eq keyword word) here others (Some line) e) [
+  | inl is ↦ at_keyword keyword word bs line is.0 (first is.1)
+  | inr isnt ↦ rest isnt.1
+]
+
+edits_take : (keyword bs : List ℕ) (line : Line) → edit_in keyword bs ≡ Some line → IsLineBehind keyword bs line
+unfolding edit_in
+edits_take keyword bs line e =
+    either_takes keyword (codes "add") bs _ _ line (add_takes bs line)
+    (either_takes keyword (codes "insert") bs _ _ line (insert_takes bs line)
+    (either_takes keyword (codes "set") bs _ _ line (set_takes bs line)
+    (either_takes keyword (codes "remove") bs _ _ line (remove_takes bs line) (λ none. absurd (none-some _ none)))))
+    e
+
 fields_take : (keyword bs : List ℕ) (line : Line) → fields_in keyword bs ≡ Some line → IsLineBehind keyword bs line
 unfolding fields_in
 fields_take keyword bs line e =
-    let fourth = cond (bytes_eq keyword (codes "remove")) (remove_in bs) None in
-    let third = cond (bytes_eq keyword (codes "add")) (add_in bs) fourth in
-    let second = cond (bytes_eq keyword (codes "filter")) (filter_in bs) third in
-    elim (chosen (bytes_eq keyword (codes "source")) (source_in bs) second (Some line) e) [
-      | inl is ↦ at_keyword keyword (codes "source") bs line is.0 (source_takes bs line is.1)
-      | inr isnt ↦
-          elim (chosen (bytes_eq keyword (codes "filter")) (filter_in bs) third (Some line) isnt.1) [
-            | inl is ↦ at_keyword keyword (codes "filter") bs line is.0 (filter_takes bs line is.1)
-            | inr isnt ↦
-                elim (chosen (bytes_eq keyword (codes "add")) (add_in bs) fourth (Some line) isnt.1) [
-                  | inl is ↦ at_keyword keyword (codes "add") bs line is.0 (add_takes bs line is.1)
-                  | inr isnt ↦
-                      elim (chosen (bytes_eq keyword (codes "remove")) (remove_in bs) None (Some line) isnt.1) [
-                        | inl is ↦ at_keyword keyword (codes "remove") bs line is.0 (remove_takes bs line is.1)
-                        | inr isnt ↦ absurd (none-some _ isnt.1)
-                      ]
-                ]
-          ]
-    ]
+    either_takes keyword (codes "source") bs _ _ line (source_takes bs line)
+    (either_takes keyword (codes "row") bs _ _ line (row_takes bs line)
+    (either_takes keyword (codes "filter") bs _ _ line (filter_takes bs line)
+    (either_takes keyword (codes "listen") bs _ _ line (listen_takes bs line) (edits_take keyword bs line))))
+    e
 
 abbrev IsLineOf : List ℕ → Line → Type 0
 IsLineOf bs line = IsLine line × (bs ≡ spelled_line line)

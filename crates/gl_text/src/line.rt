@@ -2,7 +2,7 @@
 
 ghost use Rattle.std.specs.Prelude.{◌≡◌, option_map};
 ghost use Rattle.gl_text.specs.Line.{line_of};
-ghost use Rattle.gl_text.specs.Reading.{name_ahead, matcher_in, source_in, filter_in, add_in, remove_in, fields_in, line_in};
+ghost use Rattle.gl_text.specs.Reading.{name_ahead, index_ahead, on_list, matcher_in, source_in, row_in, filter_in, listen_in, add_in, insert_in, set_in, remove_in, edit_in, fields_in, line_in};
 
 use crate::cuts::cut;
 use crate::number::{index, number};
@@ -14,15 +14,33 @@ pub enum Line<'a> {
     Source {
         name: &'a [u8],
     },
+    Row {
+        source: &'a [u8],
+        number: i64,
+    },
     Filter {
         name: &'a [u8],
         input: &'a [u8],
         matcher: Matcher,
     },
+    Listen {
+        name: &'a [u8],
+        list: &'a [u8],
+    },
     Writer,
     Section,
     Add {
         source: &'a [u8],
+        number: i64,
+    },
+    Insert {
+        source: &'a [u8],
+        index: u32,
+        number: i64,
+    },
+    Set {
+        source: &'a [u8],
+        index: u32,
         number: i64,
     },
     Remove {
@@ -53,11 +71,31 @@ fn line_with_fields<'a>(keyword: &[u8], fields: &'a [u8]) -> Option<Line<'a>>
     if keyword == b"source".as_slice() {
         return source_line(fields);
     }
+    if keyword == b"row".as_slice() {
+        return row_line(fields);
+    }
     if keyword == b"filter".as_slice() {
         return filter_line(fields);
     }
+    if keyword == b"listen".as_slice() {
+        return listen_line(fields);
+    }
+    edit_line(keyword, fields)
+}
+
+// The line of a command.
+#[tactic(auto, unfolding(crate::specs::Reading::edit_in))]
+fn edit_line<'a>(keyword: &[u8], fields: &'a [u8]) -> Option<Line<'a>>
+    ensures { option_map line_of result ≡ edit_in keyword.now fields.now }
+{
     if keyword == b"add".as_slice() {
         return add_line(fields);
+    }
+    if keyword == b"insert".as_slice() {
+        return insert_line(fields);
+    }
+    if keyword == b"set".as_slice() {
+        return set_line(fields);
     }
     if keyword == b"remove".as_slice() {
         return remove_line(fields);
@@ -76,6 +114,15 @@ fn source_line(fields: &[u8]) -> Option<Line<'_>>
     }
 }
 
+#[tactic(auto, unfolding(crate::specs::Reading::row_in))]
+fn row_line(fields: &[u8]) -> Option<Line<'_>>
+    ensures { option_map line_of result ≡ row_in fields.now }
+{
+    let (source, rest) = name_ahead(fields)?;
+    let number = number(rest)?;
+    Some(Line::Row { source, number })
+}
+
 #[tactic(auto, unfolding(crate::specs::Reading::filter_in))]
 fn filter_line(fields: &[u8]) -> Option<Line<'_>>
     ensures { option_map line_of result ≡ filter_in fields.now }
@@ -90,6 +137,23 @@ fn filter_line(fields: &[u8]) -> Option<Line<'_>>
     })
 }
 
+#[tactic(auto, unfolding(crate::specs::Reading::listen_in))]
+fn listen_line(fields: &[u8]) -> Option<Line<'_>>
+    ensures { option_map line_of result ≡ listen_in fields.now }
+{
+    let (name, rest) = name_ahead(fields)?;
+    let list = on_list(rest)?;
+    Some(Line::Listen { name, list })
+}
+
+#[tactic(auto, unfolding(crate::specs::Reading::on_list))]
+fn on_list(bytes: &[u8]) -> Option<&[u8]>
+    ensures { option_map (λ list. list.now) result ≡ on_list bytes.now }
+{
+    let list = bytes.strip_prefix(b"on ".as_slice())?;
+    if spells_name(list) { Some(list) } else { None }
+}
+
 #[tactic(auto, unfolding(crate::specs::Reading::add_in))]
 fn add_line(fields: &[u8]) -> Option<Line<'_>>
     ensures { option_map line_of result ≡ add_in fields.now }
@@ -99,6 +163,34 @@ fn add_line(fields: &[u8]) -> Option<Line<'_>>
     Some(Line::Add { source, number })
 }
 
+#[tactic(auto, unfolding(crate::specs::Reading::insert_in))]
+fn insert_line(fields: &[u8]) -> Option<Line<'_>>
+    ensures { option_map line_of result ≡ insert_in fields.now }
+{
+    let (source, rest) = name_ahead(fields)?;
+    let (index, rest) = index_ahead(rest)?;
+    let number = number(rest)?;
+    Some(Line::Insert {
+        source,
+        index,
+        number,
+    })
+}
+
+#[tactic(auto, unfolding(crate::specs::Reading::set_in))]
+fn set_line(fields: &[u8]) -> Option<Line<'_>>
+    ensures { option_map line_of result ≡ set_in fields.now }
+{
+    let (source, rest) = name_ahead(fields)?;
+    let (index, rest) = index_ahead(rest)?;
+    let number = number(rest)?;
+    Some(Line::Set {
+        source,
+        index,
+        number,
+    })
+}
+
 #[tactic(auto, unfolding(crate::specs::Reading::remove_in))]
 fn remove_line(fields: &[u8]) -> Option<Line<'_>>
     ensures { option_map line_of result ≡ remove_in fields.now }
@@ -106,6 +198,16 @@ fn remove_line(fields: &[u8]) -> Option<Line<'_>>
     let (source, rest) = name_ahead(fields)?;
     let index = index(rest)?;
     Some(Line::Remove { source, index })
+}
+
+// The index ahead of the first space, and the bytes behind it.
+#[tactic(auto, unfolding(crate::specs::Reading::index_ahead))]
+fn index_ahead(bytes: &[u8]) -> Option<(u32, &[u8])>
+    ensures { option_map (λ parts. (parts.0, parts.1.now)) result ≡ index_ahead bytes.now }
+{
+    let (number, rest) = cut(bytes, b' ')?;
+    let index = index(number)?;
+    Some((index, rest))
 }
 
 // The name ahead of the first space, and the bytes behind it.

@@ -1,9 +1,9 @@
 //! The declared lists of a plan, by name.
 
 ghost use Rattle.std.specs.Prelude.{◌≡◌, ◌<◌, ◌≤◌, length, bytes_eq, IfSome};
-ghost use Rattle.spec_texts.specs.PlanText.{number_of, source_of, kind_at, if_source, may_declare};
+ghost use Rattle.spec_texts.specs.PlanText.{number_of, source_of, kind_at, if_source, may_declare, listener_of, may_listen};
 
-use gl_plan::{ListDecl, ListKind, Plan};
+use gl_plan::{ListDecl, ListKind, ListenerDecl, Plan};
 
 /// The number of the list of that name. It compares at most the names of all lists.
 pub fn number_of(lists: &[ListDecl], name: &[u8]) -> Option<u32>
@@ -31,7 +31,8 @@ fn is_named(list: &ListDecl, name: &[u8]) -> bool
 /// The number of the source of that name.
 pub fn source_of(lists: &[ListDecl], name: &[u8]) -> Option<u32>
     requires { length lists.now ≤ 256 }
-    ensures { result ≡ source_of lists.now name.now }
+    ensures value { result ≡ source_of lists.now name.now }
+    ensures within { IfSome result (λ number. number < length lists.now) }
 {
     let number = number_of(lists, name)?;
     if_source(lists, number)
@@ -39,12 +40,39 @@ pub fn source_of(lists: &[ListDecl], name: &[u8]) -> Option<u32>
 
 // The number, where that list is a source.
 fn if_source(lists: &[ListDecl], number: u32) -> Option<u32>
-    ensures { result ≡ if_source (kind_at lists.now number) number }
+    requires { number < length lists.now }
+    ensures value { result ≡ if_source (kind_at lists.now number) number }
+    ensures within { IfSome result (λ n. n < length lists.now) }
 {
-    match lists.get(number as usize)?.kind {
-        ListKind::Source => Some(number),
+    match &lists[number as usize].kind {
+        ListKind::Source { .. } => Some(number),
         ListKind::Filter { .. } => None,
     }
+}
+
+/// Whether a listener of that name may be declared now.
+pub fn may_listen(plan: &Plan, name: &[u8]) -> bool
+    ensures { result ≡ may_listen plan.now name.now }
+{
+    let listeners = plan.listeners();
+    if plan.writers() != 0 || listeners.len() >= 256 {
+        return false;
+    }
+    listener_of(listeners, name).is_none()
+}
+
+fn listener_of(listeners: &[ListenerDecl], name: &[u8]) -> Option<usize>
+    ensures { result ≡ listener_of listeners.now name.now }
+{
+    listeners
+        .iter()
+        .position(|listener| has_name(listener, name))
+}
+
+fn has_name(listener: &ListenerDecl, name: &[u8]) -> bool
+    ensures { result ≡ bytes_eq listener.now.name name.now }
+{
+    listener.name.text().bytes() == name
 }
 
 /// Whether a list of that name may be declared now.

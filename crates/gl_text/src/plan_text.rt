@@ -1,7 +1,7 @@
 //! The text of a plan.
 
-ghost use Rattle.std.specs.Prelude.{◌≡◌, ◌∷◌, ℕ, List, IfOk, IfSome, IfNone};
-ghost use Rattle.spec_runs.specs.Plan.{Plan as PlanData};
+ghost use Rattle.std.specs.Prelude.{◌≡◌, ◌<◌, ◌≤◌, ◌∷◌, ℕ, List, length, IfOk, IfSome, IfNone};
+ghost use Rattle.spec_runs.specs.Plan.{Plan as PlanData, size, most_size};
 ghost use Rattle.spec_texts.specs.PlanText.{Spells, empty_plan};
 ghost use Rattle.gl_text.specs.Cuts.{lines_in};
 ghost use Rattle.gl_text.specs.Reading.{with_text, with_texts, plan_of_lines, plan_in};
@@ -17,6 +17,7 @@ use std::alloc::{AllocError, Global};
 /// looked at a few times, and each name in it is compared with those of the lists, of which there are at most 256.
 #[tactic(auto, using(crate::proofs::TextLaws::found))]
 pub fn read_plan(alloc: Global, bytes: &[u8]) -> Result<Option<Plan>, AllocError>
+    requires { length bytes.now ≤ most_size }
     ensures found { IfOk result (λ o. IfSome o (λ p. Spells bytes.now p)) }
     ensures none { IfOk result (λ o. IfNone o ((p : PlanData) → Spells bytes.now p → ⊥)) }
 {
@@ -25,6 +26,7 @@ pub fn read_plan(alloc: Global, bytes: &[u8]) -> Result<Option<Plan>, AllocError
 
 #[tactic(auto, unfolding(crate::specs::Reading::plan_in))]
 fn plan_at(alloc: Global, bytes: &[u8]) -> Result<Option<Plan>, AllocError>
+    requires { length bytes.now ≤ most_size }
     ensures { IfOk result (λ o. o ≡ plan_in bytes.now) }
 {
     match next_line(bytes) {
@@ -35,6 +37,7 @@ fn plan_at(alloc: Global, bytes: &[u8]) -> Result<Option<Plan>, AllocError>
 
 // The plan of the lines behind the first one.
 fn plan_behind(alloc: Global, first: &[u8], rest: &[u8]) -> Result<Option<Plan>, AllocError>
+    requires { length rest.now ≤ most_size }
     ensures { IfOk result (λ o. o ≡ plan_of_lines (first.now ∷ lines_in rest.now)) }
 {
     if first == b"glaze 1".as_slice() {
@@ -44,8 +47,9 @@ fn plan_behind(alloc: Global, first: &[u8], rest: &[u8]) -> Result<Option<Plan>,
     }
 }
 
-#[tactic(auto, using(crate::proofs::TextLaws::goes_on, crate::proofs::TextLaws::stops, crate::proofs::TextLaws::is_done))]
+#[tactic(auto, using(crate::proofs::TextLaws::goes_on, crate::proofs::TextLaws::stops, crate::proofs::TextLaws::is_done, crate::proofs::Growth::grows))]
 fn plan_of(alloc: Global, bytes: &[u8]) -> Result<Option<Plan>, AllocError>
+    requires { length bytes.now ≤ most_size }
     ensures { IfOk result (λ o. o ≡ with_texts empty_plan (lines_in bytes.now)) }
 {
     let mut plan = Plan::new(alloc);
@@ -62,6 +66,7 @@ fn plan_of(alloc: Global, bytes: &[u8]) -> Result<Option<Plan>, AllocError>
 
 #[tactic(auto, unfolding(crate::specs::Reading::with_text))]
 fn with_text(alloc: Global, plan: Plan, bytes: &[u8]) -> Result<Option<Plan>, AllocError>
+    requires { size plan < most_size }
     ensures { IfOk result (λ o. o ≡ with_text plan bytes.now) }
 {
     match read_line(bytes) {

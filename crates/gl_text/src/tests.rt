@@ -4,7 +4,7 @@ use crate::{block_rows, read_plan, write_value};
 use gl_value::{Bytes, Value};
 use std::test::Fail;
 
-const SPELLED: [&[u8]; 9] = [
+const SPELLED: [&[u8]; 11] = [
     b"glaze 1\n",
     b"glaze 1",
     b"glaze 1\nsource s\nfilter f s . = 5\nwriter\nsection\nadd s 5\nadd s 7\nremove s 0\nremove s 9\n",
@@ -14,9 +14,11 @@ const SPELLED: [&[u8]; 9] = [
     b"glaze 1\nwriter\nsection\nsection\n",
     b"glaze 1\nsource s\nwriter\nsection\nadd s 9223372036854775807\n",
     b"glaze 1\nsource s\nwriter\nsection\nremove s 4294967295\n",
+    b"glaze 1\nsource s\nrow s -1\nfilter f s all\nrow s 2\nlisten s on s\nlisten b on f\nwriter",
+    b"glaze 1\nsource s\nwriter\nsection\ninsert s 4294967295 -9\nset s 0 7\n",
 ];
 
-const NOT_SPELLED: [&[u8]; 38] = [
+const NOT_SPELLED: [&[u8]; 46] = [
     b"",
     b"\n",
     b"glaze 2\n",
@@ -55,6 +57,14 @@ const NOT_SPELLED: [&[u8]; 38] = [
     b"glaze 1\nsource s\nwriter\nsection\nremove s 4294967296\n",
     b"glaze 1\nsource s\nwriter\nsection\nremove s -1\n",
     b"glaze 1\nsource s\nwriter\nsection\nremove s 00\n",
+    b"glaze 1\nrow s 1\nsource s\n",
+    b"glaze 1\nsource s\nfilter f s all\nrow f 1\n",
+    b"glaze 1\nsource s\nwriter\nrow s 1\n",
+    b"glaze 1\nlisten a on s\nsource s\n",
+    b"glaze 1\nsource s\nlisten a on s\nlisten a on s\n",
+    b"glaze 1\nsource s\nlisten a s\n",
+    b"glaze 1\nsource s\nwriter\nlisten a on s\n",
+    b"glaze 1\nsource s\nwriter\nsection\ninsert s 1\n",
 ];
 
 #[test]

@@ -9,6 +9,10 @@ use std::alloc::{AllocError, Global};
 pub enum Command {
     /// Inserts the value at the end of the source.
     Add { list: u32, value: Value },
+    /// Inserts the value into the source at the index.
+    Insert { list: u32, index: u32, value: Value },
+    /// Puts the value in place of the element of the source at the index.
+    Set { list: u32, index: u32, value: Value },
     /// Deletes the element of the source at the index.
     Remove { list: u32, index: u32 },
 }
@@ -18,6 +22,16 @@ impl Duplicate for Command {
         Ok(match self {
             Command::Add { list, value } => Command::Add {
                 list: *list,
+                value: value.duplicate(alloc)?,
+            },
+            Command::Insert { list, index, value } => Command::Insert {
+                list: *list,
+                index: *index,
+                value: value.duplicate(alloc)?,
+            },
+            Command::Set { list, index, value } => Command::Set {
+                list: *list,
+                index: *index,
                 value: value.duplicate(alloc)?,
             },
             Command::Remove { list, index } => Command::Remove {

@@ -11,6 +11,6 @@ mod name;
 
 pub use command::{Command, Reply};
 pub use duplicate::{Duplicate, duplicates};
-pub use list::{ListDecl, ListKind};
+pub use list::{ListDecl, ListKind, ListenerDecl};
 pub use matcher::Matcher;
 pub use name::{Name, spells_name};

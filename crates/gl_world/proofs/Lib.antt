@@ -1,2 +1,5 @@
 pub mod Nodes
+pub mod Changes
+pub mod Drafts
+pub mod Tellings
 pub mod Entries

@@ -1,18 +1,18 @@
 //! What a world keeps of each list.
 
-ghost use Rattle.std.specs.Prelude.{◌≡◌, ◌<◌, [], ◌∷◌, ◌++◌, length, remove, OnOk, IfOk, ◌↔◌, IsTrue};
+ghost use Rattle.std.specs.Prelude.{◌≡◌, ◌<◌, ◌≤◌, [], ◌∷◌, ◌++◌, length, insert, remove, slice_set, OnOk, IfOk};
 ghost use Rattle.spec_runs.specs.State.{opening_of, contents_of, with_contents};
 ghost use Rattle.gl_world.specs.Node.{own_of};
 
+use crate::elements::{Elements, copied};
 use gl_types::{Duplicate, ListKind, Matcher};
 use gl_value::Value;
-use sqlite_items::Items;
 use std::alloc::{AllocError, Global};
 
 /// What a list keeps of its own: a source its contents, a filter its input and matcher.
 #[derive(Drop)]
 pub enum Node {
-    Source(Items<Value>),
+    Source(Elements),
     Filter { input: u32, matcher: Matcher },
 }
 
@@ -30,13 +30,16 @@ impl Duplicate for Node {
 
 impl Node {
     /// The list as it opens.
-    pub fn open(alloc: Global, kind: ListKind) -> Node
-        ensures { own_of result ≡ opening_of kind }
+    pub fn open(alloc: Global, kind: &ListKind) -> Result<Node, AllocError>
+        ensures { IfOk result (λ node. own_of node ≡ opening_of kind.now) }
     {
-        match kind {
-            ListKind::Source => Node::Source(Items::new(alloc)),
-            ListKind::Filter { input, matcher } => Node::Filter { input, matcher },
-        }
+        Ok(match kind {
+            ListKind::Source { rows } => Node::Source(copied(alloc, rows.as_slice())?),
+            ListKind::Filter { input, matcher } => Node::Filter {
+                input: *input,
+                matcher: *matcher,
+            },
+        })
     }
 
     /// How many elements it has of its own.
@@ -59,15 +62,35 @@ impl Node {
         }
     }
 
+    /// One element more, at that place of a source.
+    pub fn insert(&mut self, place: usize, value: Value) -> Result<(), AllocError>
+        requires { place ≤ length (contents_of (own_of self.old)) }
+        ensures { OnOk result (own_of self.new ≡ with_contents (own_of self.old) (insert (contents_of (own_of self.old)) place value)) }
+    {
+        match self {
+            Node::Source(contents) => contents.insert(place, value),
+            Node::Filter { .. } => Ok(()),
+        }
+    }
+
+    /// Another element at that place.
+    pub fn set(&mut self, place: usize, value: Value)
+        requires { place < length (contents_of (own_of self.old)) }
+        ensures { own_of self.new ≡ with_contents (own_of self.old) (slice_set (contents_of (own_of self.old)) place value) }
+    {
+        match self {
+            Node::Source(contents) => contents.set(place, value),
+            Node::Filter { .. } => {}
+        }
+    }
+
     /// One element less: the one at that place.
     pub fn remove(&mut self, place: usize)
         requires { place < length (contents_of (own_of self.old)) }
         ensures { own_of self.new ≡ with_contents (own_of self.old) (remove (contents_of (own_of self.old)) place) }
     {
         match self {
-            Node::Source(contents) => {
-                contents.remove(place);
-            }
+            Node::Source(contents) => contents.remove(place),
             Node::Filter { .. } => {}
         }
     }

@@ -1,15 +1,25 @@
 //! The world of a plan.
 
-ghost use Rattle.std.specs.Prelude.{◌≡◌, ◌<◌, [], length, map, slice_get, IfOk, OnErr};
+ghost use Rattle.std.specs.Prelude.{◌≡◌, ◌<◌, ◌≤◌, [], length, map, slice_get, IfOk, OnErr};
+ghost use Rattle.std.specs.List.{AllByRecursion, range_with_len};
 ghost use Rattle.std.specs.Option.{option_copied};
 ghost use Rattle.spec_runs.specs.State.{opening_of};
 ghost use Rattle.spec_runs.specs.Shown.{EachShowsItsView, shows_in};
 ghost use Rattle.spec_runs.specs.Run.{run, left_to, replies_at, shown_after};
+ghost use Rattle.spec_runs.specs.Plan.{most_size};
+ghost use Rattle.spec_runs.specs.Telling.{listener_turns};
+ghost use Rattle.spec_runs.specs.Wave.{unchanged};
+ghost use Rattle.spec_runs.specs.Laws.{EachHears};
 ghost use Rattle.gl_world.specs.Node.{state_of};
+ghost use Rattle.gl_world.specs.Draft.{deltas_of};
+ghost use Rattle.gl_world.specs.Told.{tellings_of};
 
+use crate::elements::Elements;
 use crate::node::Node;
-use crate::section;
+use crate::section::{Draft, after};
 use crate::shows::shown_by_all;
+use crate::tell::{Telling, tellings};
+use gl_delta::Delta;
 use gl_outside::Actor;
 use gl_plan::{ListDecl, Plan};
 use gl_types::{Duplicate, Reply};
@@ -39,9 +49,11 @@ pub struct World<N: RunName> {
     alloc: Global,
     plan: Plan,
     nodes: Vec<Node>,
-    shown: Items<Items<Value>>,
+    shown: Vec<Elements>,
     order: Vec<Actor>,
     replies: Items<Items<Reply>>,
+    turn: Vec<u32>,
+    told: Vec<Telling>,
     taken: Vec<usize>,
     name: PhantomData<N>,
 }
@@ -56,11 +68,12 @@ impl<N: RunName> Model for World<N> {
     ghost coded = { Prim.hlevel (codes, tree_code) };
 
     ghost use Rattle.gl_world.specs.Node.{state_of};
+    ghost use Rattle.gl_world.specs.Told.{tellings_of};
     ghost use Rattle.gl_world.specs.World.{IsWorld};
 
     ghost view = { λ w. record { plan = w.plan; order = w.order.items } };
 
-    ghost invariant = { λ w. IsWorld w.plan w.order.items (state_of w.nodes.items) w.shown w.replies w.taken.items };
+    ghost invariant = { λ w. IsWorld w.plan w.order.items (state_of w.nodes.items) w.shown.items w.replies w.turn.items (tellings_of w.told.items) w.taken.items };
 }
 
 impl<N: RunName> World<N> {
@@ -73,6 +86,7 @@ impl<N: RunName> World<N> {
         let copy = plan.copy(alloc)?;
         let nodes = opened(alloc, plan.lists())?;
         let shown = shown_by_all(alloc, nodes.as_slice())?;
+        let turn = numbers(alloc, plan.listeners().len() as u32)?;
         let taken = vec![in alloc; 0usize; plan.writers() as usize]?;
         Ok(World {
             alloc,
@@ -81,6 +95,8 @@ impl<N: RunName> World<N> {
             shown,
             order: Vec::new(alloc),
             replies: Items::new(alloc),
+            turn,
+            told: Vec::new(alloc),
             taken,
             name: PhantomData,
         })
@@ -109,6 +125,20 @@ impl<N: RunName> World<N> {
             Some(replies) => replies.as_slice(),
             None => &[],
         }
+    }
+
+    /// All tellings of all listeners, in the order in which they were told.
+    pub fn told(&self) -> &[Telling]
+        ensures { tellings_of result.now ≡ (run self.now.plan self.now.order).told }
+    {
+        self.told.as_slice()
+    }
+
+    /// The listeners in the order in which they are told at an entry.
+    pub fn turn(&self) -> &[u32]
+        ensures { result.now ≡ listener_turns self.now.plan }
+    {
+        self.turn.as_slice()
     }
 
     /// How many sections a writer has left.
@@ -149,6 +179,7 @@ impl<N: RunName> World<N> {
         ensures taken { IfOk result (λ next. TakesSection writer self.old next self.new) }
         ensures err { OnErr result (self.new ≡ self.old) }
     {
+        let _ = self.plan.lists();
         let section = self.taken[writer as usize];
         if section >= self.plan.sections(writer) {
             return Ok(Next::None(Spent {
@@ -156,18 +187,29 @@ impl<N: RunName> World<N> {
                 name: PhantomData,
             }));
         }
-        let nodes = copied(self.alloc, self.nodes.as_slice())?;
+        let draft = drafted(self.alloc, self.nodes.as_slice(), self.shown.as_slice())?;
         let commands = self.plan.commands(writer, section);
-        let (nodes, replies) = section::after(self.alloc, nodes, commands)?;
-        let shown = shown_by_all(self.alloc, nodes.as_slice())?;
+        let (draft, replies) = after(self.alloc, draft, commands)?;
         let place = self.order.len() as u64;
+        let mut told = tellings(
+            self.alloc,
+            self.plan.listeners(),
+            self.turn.as_slice(),
+            place,
+            draft.deltas.as_slice(),
+        )?;
         self.order.push(Actor::Writer(writer))?;
         if self.replies.push(replies).is_err() {
             self.order.pop();
             return Err(AllocError);
         }
-        self.nodes = nodes;
-        self.shown = shown;
+        if self.told.append(&mut told).is_err() {
+            self.replies.pop();
+            self.order.pop();
+            return Err(AllocError);
+        }
+        self.nodes = draft.nodes;
+        self.shown = draft.shown;
         self.taken[writer as usize] = section + 1;
         Ok(Next::Some(place))
     }
@@ -207,21 +249,61 @@ impl<N: RunName> Spent<N> {
 }
 
 // The element at a place of what a list shows.
-fn element(shown: &[Items<Value>], list: usize, place: usize) -> Option<&Value>
+fn element(shown: &[Elements], list: usize, place: usize) -> Option<&Value>
     ensures { option_copied result ≡ slice_get (shows_in shown.now list) place }
 {
     match shown.get(list) {
-        Some(values) => values.get(place),
+        Some(values) => values.as_slice().get(place),
         None => None,
     }
 }
 
-fn copied(alloc: Global, nodes: &[Node]) -> Result<Vec<Node>, AllocError>
-    ensures { IfOk result (λ copies. copies.items ≡ nodes.now) }
+// Copies of the lists, with the deltas of a section that begins.
+fn drafted(alloc: Global, nodes: &[Node], shown: &[Elements]) -> Result<Draft, AllocError>
+    requires { AllByRecursion (λ xs. length xs ≤ most_size) shown.now }
+    ensures nodes { IfOk result (λ draft. draft.nodes.items ≡ nodes.now) }
+    ensures shown { IfOk result (λ draft. draft.shown.items ≡ shown.now) }
+    ensures deltas { IfOk result (λ draft. deltas_of draft.deltas.items ≡ unchanged shown.now) }
 {
-    let mut copies = Vec::with_capacity(alloc, nodes.len())?;
-    for node in nodes {
-        copies.push(node.duplicate(alloc)?)?;
+    let nodes = copied(alloc, nodes)?;
+    let deltas = identities(alloc, shown)?;
+    let shown = copied(alloc, shown)?;
+    Ok(Draft {
+        nodes,
+        shown,
+        deltas,
+    })
+}
+
+// The identity of each list.
+fn identities(alloc: Global, shown: &[Elements]) -> Result<Vec<Delta>, AllocError>
+    requires { AllByRecursion (λ xs. length xs ≤ most_size) shown.now }
+    ensures { IfOk result (λ deltas. deltas_of deltas.items ≡ unchanged shown.now) }
+{
+    let mut deltas = Vec::with_capacity(alloc, shown.len())?;
+    for values in shown {
+        deltas.push(Delta::identity(alloc, values.len())?)?;
+    }
+    Ok(deltas)
+}
+
+// The first numbers, in order.
+fn numbers(alloc: Global, count: u32) -> Result<Vec<u32>, AllocError>
+    ensures { IfOk result (λ all. all.items ≡ range_with_len 0 count) }
+{
+    let mut all = Vec::new(alloc);
+    for number in 0..count {
+        all.push(number)?;
+    }
+    Ok(all)
+}
+
+fn copied<T: Duplicate>(alloc: Global, items: &[T]) -> Result<Vec<T>, AllocError>
+    ensures { IfOk result (λ copies. copies.items ≡ items.now) }
+{
+    let mut copies = Vec::new(alloc);
+    for item in items {
+        copies.push(item.duplicate(alloc)?)?;
     }
     Ok(copies)
 }
@@ -232,7 +314,7 @@ fn opened(alloc: Global, lists: &[ListDecl]) -> Result<Vec<Node>, AllocError>
 {
     let mut nodes = Vec::new(alloc);
     for list in lists {
-        nodes.push(Node::open(alloc, list.kind))?;
+        nodes.push(Node::open(alloc, &list.kind)?)?;
     }
     Ok(nodes)
 }

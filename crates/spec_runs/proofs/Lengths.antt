@@ -1,15 +1,15 @@
 -- A run keeps the number of lists, and says of each what it shows.
-use Rattle.std.proofs.Common.{◌≡◌, ◌∙◌, ℕ, List, [], ◌∷◌, length, map, fold, refl, ap, slice_set, length-set}
+use Rattle.std.proofs.Common.{◌≡◌, ◌∙◌, ℕ, List, [], ◌∷◌, length, fold, refl, length-set}
 use Rattle.std.proofs.lemmas.List.{length-map}
 use Rattle.std.specs.Prelude.{Option, Some, None}
 use Rattle.gl_types.specs.declared.command.Command.{Command}
-use Rattle.gl_types.specs.declared.command.Command.TheVariants.{Add, Remove}
 use Rattle.gl_types.specs.declared.command.Reply.{Reply}
 use Rattle.gl_outside.specs.declared.gate.Actor.{Actor}
 use Rattle.spec_runs.specs.Plan.{Plan}
 use Rattle.spec_runs.specs.State.{State, opening_of}
 use Rattle.spec_runs.specs.Shown.{Table, settle_one, settled, nothing_shown, table_of, turns}
-use Rattle.spec_runs.specs.Step.{step, step_by, refusal, wave, state_after}
+use Rattle.spec_runs.specs.Wave.{origin}
+use Rattle.spec_runs.specs.Step.{step, step_by, refusal, state_after}
 use Rattle.spec_runs.specs.Run.{Run, run, start, entry, next_commands}
 
 length-settled : (s : State) (t : Table) (lists : List ℕ) → length (settled s t lists) ≡ length t
@@ -20,18 +20,14 @@ length-settled s t (list ∷ lists) = length-settled s (settle_one s t list) lis
 pub length-table_of : (s : State) → length (table_of s) ≡ length s
 length-table_of s = length-settled s (nothing_shown s) (turns s) ∙ length-map s (λ own. [])
 
-length-step : (s : State) (c : Command) → length (step s c).state ≡ length s
+pub length-step : (s : State) (c : Command) → length (step s c).state ≡ length s
 length-step s c = by_reply (refusal s c)
   where
-    of_wave : (d : Command) → length (wave s d) ≡ length s
-    of_wave (Add list value) = length-set s list _
-    of_wave (Remove list index) = length-set s list _
-
     by_reply : (r : Option Reply) → length (step_by r s c).state ≡ length s
     by_reply (Some reply) = refl
-    by_reply None = of_wave c
+    by_reply None = length-set s (origin c) _
 
-length-state_after : (s : State) (cs : List Command) → length (state_after s cs) ≡ length s
+pub length-state_after : (s : State) (cs : List Command) → length (state_after s cs) ≡ length s
 length-state_after s [] = refl
 length-state_after s (c ∷ cs) = length-state_after (step s c).state cs ∙ length-step s c
 

@@ -1,5 +1,10 @@
-pub mod Views
 pub mod Runs
-pub mod Lengths
 pub mod Plans
 pub mod Steps
+pub mod Lengths
+pub mod Settling
+pub mod Views
+pub mod Edits
+pub mod Waves
+pub mod Sizes
+pub mod Hearing

@@ -6,6 +6,8 @@ use Rattle.gl_outside.specs.declared.gate.Actor.{Actor}
 use Rattle.gl_outside.specs.declared.gate.Actor.TheVariants.{Writer}
 use Rattle.spec_runs.specs.Plan.{Plan, commands_of}
 use Rattle.spec_runs.specs.Step.{state_after, replies_to}
+use Rattle.spec_runs.specs.Section.{section_deltas}
+use Rattle.spec_runs.specs.Telling.{tellings}
 use Rattle.spec_runs.specs.Run.{Run, run, start, entry, next_commands, taken_by, is_writer}
 
 -- the run of an order with one actor more is that of the order and one entry more
@@ -42,3 +44,7 @@ state_more p order w = rw (run_more p order (Writer w), order_of_run p order) re
 
 pub replies_more : (p : Plan) (order : List Actor) (w : ℕ) → (run p (order ++ Writer w ∷ [])).replies ≡ (run p order).replies ++ replies_to (run p order).state (commands_of p w (taken_by w order)) ∷ []
 replies_more p order w = rw (run_more p order (Writer w), order_of_run p order) refl
+
+-- and its tellings behind all others
+pub told_more : (p : Plan) (order : List Actor) (w : ℕ) → (run p (order ++ Writer w ∷ [])).told ≡ (run p order).told ++ tellings p (length order) (section_deltas (run p order).state (commands_of p w (taken_by w order)))
+told_more p order w = rw (run_more p order (Writer w), order_of_run p order) refl

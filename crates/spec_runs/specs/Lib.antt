@@ -2,8 +2,13 @@ pub mod Plan
 pub mod Building
 pub mod View
 pub mod State
+pub mod Order
 pub mod Shown
+pub mod Wave
 pub mod Step
+pub mod Section
+pub mod Telling
 pub mod Run
 pub mod Fits
+pub mod Laws
 pub mod Rows

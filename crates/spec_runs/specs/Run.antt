@@ -7,6 +7,8 @@ use Rattle.gl_types.specs.declared.command.Reply.{Reply}
 use Rattle.spec_runs.specs.Plan.{Plan, commands_of, sections_of}
 use Rattle.spec_runs.specs.State.{State, opening}
 use Rattle.spec_runs.specs.Step.{state_after, replies_to}
+use Rattle.spec_runs.specs.Section.{section_deltas}
+use Rattle.spec_runs.specs.Telling.{Telling, tellings}
 use Rattle.spec_runs.specs.Shown.{shown}
 use Rattle.spec_value.specs.Tree.{Tree}
 
@@ -29,27 +31,29 @@ abbrev pub next_commands : Plan → List Actor → Actor → List Command
 next_commands p order (Writer w) = commands_of p w (taken_by w order)
 next_commands p order (Proxy n) = []
 
--- the order so far, the state after it, and the replies of each entry
+-- the order so far, the state after it, the replies of each entry, and all tellings in the order told
 pub record Run : Type 0 where
   pub order : List Actor
   pub state : State
   pub replies : List (List Reply)
+  pub told : List Telling
 
 -- before the first entry
 abbrev pub start : Plan → Run
-start p = record { order = []; state = opening p; replies = [] }
+start p = record { order = []; state = opening p; replies = []; told = [] }
 
 -- the run once these commands were an actor's entry
-abbrev pub entered : Run → Actor → List Command → Run
-entered r a commands = record {
+abbrev pub entered : Plan → Run → Actor → List Command → Run
+entered p r a commands = record {
   order = r.order ++ a ∷ [];
   state = state_after r.state commands;
   replies = r.replies ++ replies_to r.state commands ∷ [];
+  told = r.told ++ tellings p (length r.order) (section_deltas r.state commands);
 }
 
 -- one entry more
 abbrev pub entry : Plan → Run → Actor → Run
-entry p r a = entered r a (next_commands p r.order a)
+entry p r a = entered p r a (next_commands p r.order a)
 
 -- the run of a plan in an order
 abbrev pub run : Plan → List Actor → Run

@@ -1,5 +1,5 @@
 -- The state of a plan: what each list keeps of its own. What lists show is no part of it.
-use Rattle.std.specs.Prelude.{ℕ, List, [], ◌∷◌, map, unwrap_or, slice_get, slice_set}
+use Rattle.std.specs.Prelude.{◌+◌, ℕ, List, [], ◌∷◌, length, map, unwrap_or, slice_get, slice_set}
 use Rattle.spec_value.specs.Tree.{Tree}
 use Rattle.gl_types.specs.declared.list.ListKind.{ListKind}
 use Rattle.gl_types.specs.declared.list.ListKind.TheVariants.{Source, Filter}
@@ -17,7 +17,7 @@ State = List Own
 
 -- what a list opens with
 abbrev pub opening_of : ListKind → Own
-opening_of Source = source []
+opening_of (Source rows) = source rows
 opening_of (Filter input matcher) = filtering input matcher
 
 -- the state that a plan opens with
@@ -46,3 +46,8 @@ put_contents s list values = slice_set s list (with_contents (own_at s list) val
 abbrev pub inputs : Own → List ℕ
 inputs (source contents) = []
 inputs (filtering input matcher) = input ∷ []
+
+-- how many elements the sources of a state have in all
+abbrev pub elements_in : State → ℕ
+elements_in [] = 0
+elements_in (own ∷ s) = length (contents_of own) + elements_in s

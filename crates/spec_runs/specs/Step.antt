@@ -1,39 +1,38 @@
 -- What a command does: it is refused by the state, or makes a wave.
-use Rattle.std.specs.Prelude.{◌++◌, ℕ, List, [], ◌∷◌, length, remove, nat_lt, if◌then◌else◌, Option, Some, None}
-use Rattle.spec_value.specs.Tree.{Tree}
+use Rattle.std.specs.Prelude.{ℕ, List, [], ◌∷◌, length, nat_lt, nat_le, if◌then◌else◌, Option, Some, None}
 use Rattle.gl_types.specs.declared.command.Command.{Command}
-use Rattle.gl_types.specs.declared.command.Command.TheVariants.{Add, Remove}
+use Rattle.gl_types.specs.declared.command.Command.TheVariants.{Add, Insert, Set, Remove}
 use Rattle.gl_types.specs.declared.command.Reply.{Reply}
 use Rattle.gl_types.specs.declared.command.Reply.TheVariants.{Done, OutOfRange}
-use Rattle.spec_runs.specs.State.{State, own_at, contents_of, put_contents}
-
--- the contents of a source of the state
-abbrev pub contents_at : State → ℕ → List Tree
-contents_at s list = contents_of (own_at s list)
+use Rattle.spec_runs.specs.State.{State}
+use Rattle.spec_runs.specs.Shown.{table_of}
+use Rattle.spec_runs.specs.Wave.{Deltas, contents_at, wave, wave_deltas, unchanged}
 
 -- nothing where the index is below the length, else the refusal that says both
 abbrev pub out_of_range : ℕ → ℕ → Option Reply
 out_of_range index len = if nat_lt index len then None else Some (OutOfRange index len)
 
+-- the same where the index may be the length too
+abbrev pub past_end : ℕ → ℕ → Option Reply
+past_end index len = if nat_le index len then None else Some (OutOfRange index len)
+
 -- the reply of the state that refuses a command, if it does
 abbrev pub refusal : State → Command → Option Reply
 refusal s (Add list value) = None
+refusal s (Insert list index value) = past_end index (length (contents_at s list))
+refusal s (Set list index value) = out_of_range index (length (contents_at s list))
 refusal s (Remove list index) = out_of_range index (length (contents_at s list))
 
--- the state that a command makes where it isn't refused
-abbrev pub wave : State → Command → State
-wave s (Add list value) = put_contents s list (contents_at s list ++ value ∷ [])
-wave s (Remove list index) = put_contents s list (remove (contents_at s list) index)
-
--- a command's reply, and the state after it
+-- a command's reply, the state after it, and the delta of every list
 pub record Step : Type 0 where
   pub state : State
   pub reply : Reply
+  pub deltas : Deltas
 
 -- a refused command changes nothing
 abbrev pub step_by : Option Reply → State → Command → Step
-step_by (Some reply) s c = record { state = s; reply = reply }
-step_by None s c = record { state = wave s c; reply = Done }
+step_by (Some reply) s c = record { state = s; reply = reply; deltas = unchanged (table_of s) }
+step_by None s c = record { state = wave s c; reply = Done; deltas = wave_deltas s c }
 
 -- one command: the first case that fits
 abbrev pub step : State → Command → Step
