@@ -1,2 +1,3 @@
 pub mod SortingLaws
 pub mod Lists
+pub mod KindLaws

@@ -47,7 +47,7 @@ func_parts (total path each) = []
 func_parts (sum f g) = []
 func_parts (list fs) = listed_funcs fs
 
-listed-matchers : (ms : List Matcher) → listed_matchers (matchers ms) ≡ ms
+pub listed-matchers : (ms : List Matcher) → listed_matchers (matchers ms) ≡ ms
 listed-matchers [] = refl
 listed-matchers (m ∷ ms) = ap (λ ns. m ∷ ns) (listed-matchers ms)
 

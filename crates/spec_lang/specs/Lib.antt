@@ -5,4 +5,5 @@ pub mod Func
 pub mod Kids
 pub mod MatcherCode
 pub mod FuncCode
+pub mod Kind
 pub mod Rows

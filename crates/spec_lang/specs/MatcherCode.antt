@@ -8,7 +8,7 @@ use Rattle.spec_lang.specs.declared.Test.{Test}
 use Rattle.spec_lang.specs.declared.Test.TheVariants.{Eq, Ne, Lt, Le, Gt, Ge}
 use Rattle.spec_lang.specs.Matcher.{Matcher, all, nothing, is, negation, both, either, Matchers, none, more}
 
-abbrev test_number : Test → ℕ
+abbrev pub test_number : Test → ℕ
 test_number Eq = 0
 test_number Ne = 1
 test_number Lt = 2
@@ -16,7 +16,7 @@ test_number Le = 3
 test_number Gt = 4
 test_number Ge = 5
 
-abbrev numbered_test : ℕ → Test
+abbrev pub numbered_test : ℕ → Test
 numbered_test zero = Eq
 numbered_test (suc zero) = Ne
 numbered_test (suc (suc zero)) = Lt
@@ -75,7 +75,7 @@ read_mark (suc (suc (suc zero))) stack = negate stack
 read_mark (suc (suc (suc (suc zero)))) stack = nest both stack
 read_mark (suc (suc (suc (suc (suc n))))) stack = nest either stack
 
-abbrev read_marks : List Mark → List Matchers
+abbrev pub read_marks : List Mark → List Matchers
 read_marks [] = []
 read_marks (inl n ∷ k) = read_mark n (read_marks k)
 read_marks (inr (path, (test, literal)) ∷ k) = push (is path test literal) (read_marks k)
@@ -97,7 +97,7 @@ mutual
   read_marks-matchers none k = refl
   read_marks-matchers (more m ms) k = read_marks-matcher m (matchers_marks ms k) ∙ ap (push m) (read_marks-matchers ms k)
 
-abbrev first : List Matchers → Matcher
+abbrev pub first : List Matchers → Matcher
 first [] = all
 first (none ∷ stack) = all
 first (more m ms ∷ stack) = m

@@ -2,12 +2,14 @@
 use Rattle.std.specs.Prelude.{◌≡◌, ℕ, pos, List, [], ◌∷◌, true, false, refl}
 use Rattle.std.specs.declared.cmp.Ordering.TheVariants.{Less, Equal, Greater}
 use Rattle.spec_value.specs.Tree.{Tree, num, text, items_of}
-use Rattle.spec_lang.specs.declared.Test.TheVariants.{Eq, Lt, Le}
+use Rattle.spec_lang.specs.declared.Test.TheVariants.{Eq, Lt, Le, Gt}
 use Rattle.spec_lang.specs.Path.{at}
-use Rattle.spec_lang.specs.Matcher.{all, nothing, is, negation, both, either, matchers, accepts}
+use Rattle.spec_lang.specs.Matcher.{Matcher, all, nothing, is, negation, both, either, matchers, accepts}
 use Rattle.spec_lang.specs.Sorting.{Key, order_cmp}
 use Rattle.spec_lang.specs.Func.{at_path, number, count, total, sum, list, funcs, eval}
 use Rattle.spec_lang.specs.Kids.{kids}
+use Rattle.spec_lang.specs.declared.EditKind.TheVariants.{Constrained, Relaxed, Changed}
+use Rattle.spec_lang.specs.Kind.{kind}
 
 -- [1,"a",[4,5]]
 abbrev row : Tree
@@ -86,3 +88,29 @@ children = refl
 
 no_children : kids (1 ∷ []) row ≡ []
 no_children = refl
+
+-- .0 > 3, then that and .1 = "x", then the second alone, then everything
+abbrev above_three : Matcher
+above_three = is (0 ∷ []) Gt (num (pos 3))
+
+abbrev is_x : Matcher
+is_x = is (1 ∷ []) Eq (text (120 ∷ []))
+
+constrained : kind above_three (both (matchers (above_three ∷ is_x ∷ []))) ≡ Constrained
+constrained = refl
+
+relaxed : kind (both (matchers (above_three ∷ is_x ∷ []))) is_x ≡ Relaxed
+relaxed = refl
+
+changed : kind above_three is_x ≡ Changed
+changed = refl
+
+from_nothing : kind nothing above_three ≡ Relaxed
+from_nothing = refl
+
+-- the same matcher again, and what `all` constrains
+again : kind is_x is_x ≡ Constrained
+again = refl
+
+from_all : kind all is_x ≡ Constrained
+from_all = refl

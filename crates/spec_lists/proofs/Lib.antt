@@ -9,3 +9,4 @@ pub mod Pairing
 pub mod Joining
 pub mod Lengths
 pub mod Counting
+pub mod Editing

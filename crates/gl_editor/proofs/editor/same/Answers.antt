@@ -1,0 +1,5 @@
+use Rattle.spec_lang.proofs.KindLaws.{same_decided}
+use Rattle.gl_editor.proofs.editor.same.Goals as goal
+
+pub returns : goal.returns
+returns c = same_decided c.args.m.now c.args.n.now c.same.result c.same.ensures

@@ -1,0 +1,11 @@
+use Rattle.std.proofs.Common.{◌∙◌, ap}
+use Rattle.spec_lang.specs.Matcher.{accepts}
+use Rattle.gl_barcode.specs.Bars.{count_shown}
+use Rattle.gl_filter.specs.Kept.{Kept}
+use Rattle.gl_filter.proofs.Showing.{count-filter}
+use Rattle.gl_filter.proofs.filter.Filter.len.Goals as goal
+
+pub returns : goal.returns
+returns c =
+    λ xs stands. c.shown_len.ensures
+    ∙ (ap (λ (k : Kept). count_shown k.shown) c.self.view_is ∙ (ap count_shown stands ∙ count-filter (accepts c.args.self.now.matcher) xs))

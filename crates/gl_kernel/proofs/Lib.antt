@@ -1,0 +1,6 @@
+pub mod Playing
+pub mod Naming
+pub mod Fating
+pub mod Spreading
+pub mod Making
+pub mod Leading

@@ -1,0 +1,62 @@
+-- The values of a list under handles, by their places.
+use Rattle.std.specs.Prelude.{◌≡◌, ℕ, zero, suc, ◌<◌, List, [], ◌∷◌, length, insert, remove, slice_get, Some, None, Option, Contains, map, take, drop, refl}
+use Rattle.std.proofs.Common.{ap, sym, ◌∙◌, arith}
+use Rattle.gl_counted.specs.Counted.{handles, AreDistinct}
+use Rattle.gl_counted.proofs.Holding.{get_from_Contains}
+use Rattle.gl_kernel.specs.Values.{unnamed}
+
+module _ {T : Type 0} where
+  pub length-unnamed : (es : List (ℕ × T)) → length (unnamed es) ≡ length es
+  length-unnamed [] = refl
+  length-unnamed (e ∷ es) = ap suc (length-unnamed es)
+
+  pub unnamed-insert : (es : List (ℕ × T)) (at h : ℕ) (x : T) → unnamed (insert es at (h, x)) ≡ insert (unnamed es) at x
+  unnamed-insert es zero h x = refl
+  unnamed-insert [] (suc at) h x = refl
+  unnamed-insert (e ∷ es) (suc at) h x = ap (λ xs. e.1 ∷ xs) (unnamed-insert es at h x)
+
+  pub unnamed-remove : (es : List (ℕ × T)) (at : ℕ) → unnamed (remove es at) ≡ remove (unnamed es) at
+  unnamed-remove [] zero = refl
+  unnamed-remove [] (suc at) = refl
+  unnamed-remove (e ∷ es) zero = refl
+  unnamed-remove (e ∷ es) (suc at) = ap (λ xs. e.1 ∷ xs) (unnamed-remove es at)
+
+  get-unnamed : (es : List (ℕ × T)) (at h : ℕ) (x : T) → slice_get es at ≡ Some (h, x) → slice_get (unnamed es) at ≡ Some x
+  get-unnamed [] zero h x e = cc
+  get-unnamed [] (suc at) h x e = cc
+  get-unnamed (d ∷ es) zero h x e = ap second e
+    where
+      second : Option (ℕ × T) → Option T
+      second None = None
+      second (Some p) = Some p.1
+  get-unnamed (d ∷ es) (suc at) h x e = get-unnamed es at h x e
+
+  get-handles : (es : List (ℕ × T)) (at h : ℕ) (x : T) → slice_get es at ≡ Some (h, x) → slice_get (handles es) at ≡ Some h
+  get-handles [] zero h x e = cc
+  get-handles [] (suc at) h x e = cc
+  get-handles (d ∷ es) zero h x e = ap first e
+    where
+      first : Option (ℕ × T) → Option ℕ
+      first None = None
+      first (Some p) = Some p.0
+  get-handles (d ∷ es) (suc at) h x e = get-handles es at h x e
+
+  -- a handle stands at one place alone
+  pub one_place : (es : List (ℕ × T)) (place k h : ℕ) (x : T) → AreDistinct es → slice_get (handles es) place ≡ Some h → slice_get es k ≡ Some (h, x) → k ≡ place
+  one_place es place k h x distinct at found = distinct h k place (get-handles es k h x found) at
+
+  -- so its item is the value at its place
+  pub value_at : (es : List (ℕ × T)) (place k h : ℕ) (x : T) → AreDistinct es → slice_get (handles es) place ≡ Some h → slice_get es k ≡ Some (h, x) → slice_get (unnamed es) place ≡ Some x
+  value_at es place k h x distinct at found =
+      ap (λ n. slice_get (unnamed es) n) (sym (one_place es place k h x distinct at found)) ∙ get-unnamed es k h x found
+
+  pub value_held : (es : List (ℕ × T)) (place h : ℕ) (x : T) → AreDistinct es → slice_get (handles es) place ≡ Some h → Contains es (h, x) → slice_get (unnamed es) place ≡ Some x
+  value_held es place h x distinct at held =
+      let k : (n : ℕ) × (slice_get es n ≡ Some (h, x)) = get_from_Contains es (h, x) held in
+      value_at es place k.0 h x distinct at k.1
+
+  pub no_value : (es : List (ℕ × T)) (place : ℕ) → slice_get (handles es) place ≡ None → slice_get (unnamed es) place ≡ None
+  no_value [] zero e = refl
+  no_value [] (suc at) e = refl
+  no_value (d ∷ es) zero e = cc
+  no_value (d ∷ es) (suc at) e = no_value es at e

@@ -1,0 +1,92 @@
+-- The pieces of a delta's cells are its own, and what is told of them piece by piece.
+use Rattle.std.specs.Prelude.{◌≡◌, ℕ, zero, suc, ◌+◌, ◌<◌, ◌≤◌, List, [], ◌∷◌, ◌++◌, length, map, replicate, refl}
+use Rattle.std.proofs.Common.{ap, sym, ◌∙◌, arith, append_assoc}
+use Rattle.spec_value.specs.Tree.{Tree}
+use Rattle.spec_lists.specs.Piece.{Piece, kept, updated, deleted, inserted, old_len, new_len, normal, insert_first}
+use Rattle.spec_lists.specs.Cells.{Cell, keep, update, delete, insert, keep_first, cells_of, pieces_in}
+use Rattle.spec_lists.proofs.Normal.{old_len-normal, new_len-normal}
+use Rattle.spec_lists.proofs.Changing.{old_len-append, new_len-append}
+use Rattle.gl_kernel.specs.declared.edit.Edit.{Edit}
+use Rattle.gl_kernel.specs.declared.edit.Edit.TheVariants.{Insert, Remove, Set}
+use Rattle.gl_kernel.specs.Fates.{fate, edits_of}
+use Rattle.gl_kernel.specs.Spread.{spread}
+
+spread-keep_first : (cs : List Cell) → spread (keep_first cs) ≡ kept ∷ spread cs
+spread-keep_first [] = refl
+spread-keep_first (keep n ∷ cs) = refl
+spread-keep_first (update v w ∷ cs) = refl
+spread-keep_first (delete v ∷ cs) = refl
+spread-keep_first (insert w ∷ cs) = refl
+
+pub spread-cells : (ps : List Piece) → spread (cells_of ps) ≡ ps
+spread-cells [] = refl
+spread-cells (kept ∷ ps) = spread-keep_first (cells_of ps) ∙ ap (λ qs. kept ∷ qs) (spread-cells ps)
+spread-cells (updated v w ∷ ps) = ap (λ qs. updated v w ∷ qs) (spread-cells ps)
+spread-cells (deleted v ∷ ps) = ap (λ qs. deleted v ∷ qs) (spread-cells ps)
+spread-cells (inserted w ∷ ps) = ap (λ qs. inserted w ∷ qs) (spread-cells ps)
+
+normal-first : (w : Tree) (zs ys : List Piece) → normal (insert_first w zs ++ ys) ≡ insert_first w (normal (zs ++ ys))
+normal-first w [] ys = refl
+normal-first w (kept ∷ zs) ys = refl
+normal-first w (updated v x ∷ zs) ys = refl
+normal-first w (deleted v ∷ zs) ys = ap (λ qs. deleted v ∷ qs) (normal-first w zs ys)
+normal-first w (inserted x ∷ zs) ys = refl
+
+-- normal form can be made step by step
+pub normal-append : (xs ys : List Piece) → normal (normal xs ++ ys) ≡ normal (xs ++ ys)
+normal-append [] ys = refl
+normal-append (kept ∷ xs) ys = ap (λ qs. kept ∷ qs) (normal-append xs ys)
+normal-append (updated v w ∷ xs) ys = ap (λ qs. updated v w ∷ qs) (normal-append xs ys)
+normal-append (deleted v ∷ xs) ys = ap (λ qs. deleted v ∷ qs) (normal-append xs ys)
+normal-append (inserted w ∷ xs) ys = normal-first w (normal xs) ys ∙ ap (insert_first w) (normal-append xs ys)
+
+-- what is told so far and what is left to tell are the whole: after one more step too
+pub told_more : (whole out more told rest : List Piece) → normal (out ++ (told ++ rest)) ≡ whole → more ≡ normal (out ++ told) → normal (more ++ rest) ≡ whole
+told_more whole out more told rest e f =
+    ap (λ qs. normal (qs ++ rest)) f ∙ (normal-append (out ++ told) rest ∙ (ap normal (append_assoc out told rest) ∙ e))
+
+-- so neither side of what is told passes that of the whole
+pub told_olds : (whole out told rest : List Piece) → normal (out ++ (told ++ rest)) ≡ whole → old_len out + old_len told ≤ old_len whole
+told_olds whole out told rest e =
+    omega (arith, old_len-append out (told ++ rest), old_len-append told rest, old_len-normal (out ++ (told ++ rest)), ap old_len e)
+
+pub told_news : (whole out told rest : List Piece) → normal (out ++ (told ++ rest)) ≡ whole → new_len out + new_len told ≤ new_len whole
+told_news whole out told rest e =
+    omega (arith, new_len-append out (told ++ rest), new_len-append told rest, new_len-normal (out ++ (told ++ rest)), ap new_len e)
+
+module _ {T : Type 0} where
+  -- kept elements need no edit
+  pub edits-keeps : (f : Tree → T) (n i : ℕ) (ps : List Piece) → edits_of i (map (fate f) (replicate n kept ++ ps)) ≡ edits_of (i + n) (map (fate f) ps)
+  edits-keeps f zero i ps = let e : i ≡ i + 0 = omega arith in ap (λ k. edits_of k (map (fate f) ps)) e
+  edits-keeps f (suc n) i ps =
+      let e : suc i + n ≡ i + suc n = omega arith in
+      edits-keeps f n (suc i) ps ∙ ap (λ k. edits_of k (map (fate f) ps)) e
+
+  -- the edits so far and those that are left are the whole: after one more too
+  pub logged_more : (whole log more : List (Edit T)) (e : Edit T) (rest : List (Edit T)) → log ++ (e ∷ rest) ≡ whole → more ≡ log ++ e ∷ [] → more ++ rest ≡ whole
+  logged_more whole log more e rest p q = ap (λ es. es ++ rest) q ∙ (append_assoc log (e ∷ []) rest ∙ p)
+
+  -- the edits of one part of the pieces, and then of the other
+  pub edits-append : (f : Tree → T) (ps qs : List Piece) (i : ℕ) → edits_of i (map (fate f) (ps ++ qs)) ≡ edits_of i (map (fate f) ps) ++ edits_of (i + old_len ps) (map (fate f) qs)
+  edits-append f [] qs i = let e : i ≡ i + 0 = omega arith in ap (λ k. edits_of k (map (fate f) qs)) e
+  edits-append f (kept ∷ ps) qs i =
+      let e : suc i + old_len ps ≡ i + suc (old_len ps) = omega arith in
+      edits-append f ps qs (suc i) ∙ ap (λ k. edits_of (suc i) (map (fate f) ps) ++ edits_of k (map (fate f) qs)) e
+  edits-append f (updated v w ∷ ps) qs i =
+      let e : suc i + old_len ps ≡ i + suc (old_len ps) = omega arith in
+      ap (λ es. Set i (f w) ∷ es) (edits-append f ps qs (suc i) ∙ ap (λ k. edits_of (suc i) (map (fate f) ps) ++ edits_of k (map (fate f) qs)) e)
+  edits-append f (deleted v ∷ ps) qs i =
+      let e : suc i + old_len ps ≡ i + suc (old_len ps) = omega arith in
+      ap (λ es. Remove i ∷ es) (edits-append f ps qs (suc i) ∙ ap (λ k. edits_of (suc i) (map (fate f) ps) ++ edits_of k (map (fate f) qs)) e)
+  edits-append f (inserted w ∷ ps) qs i = ap (λ es. Insert i (f w) ∷ es) (edits-append f ps qs i)
+
+  -- the edits so far and those that are left are the whole, after a step too
+  pub edits_more : (f : Tree → T) (whole log more : List (Edit T)) (qs rest : List Piece) (i j : ℕ) → log ++ edits_of i (map (fate f) (qs ++ rest)) ≡ whole → more ≡ log ++ edits_of i (map (fate f) qs) → j ≡ i + old_len qs → more ++ edits_of j (map (fate f) rest) ≡ whole
+  edits_more f whole log more qs rest i j p q e =
+      ap (λ es. es ++ edits_of j (map (fate f) rest)) q
+      ∙ (append_assoc log (edits_of i (map (fate f) qs)) (edits_of j (map (fate f) rest))
+      ∙ (ap (λ k. log ++ (edits_of i (map (fate f) qs) ++ edits_of k (map (fate f) rest))) e ∙ (ap (λ es. log ++ es) (sym (edits-append f qs rest i)) ∙ p)))
+
+  pub no_edits : (f : Tree → T) (n i : ℕ) → edits_of i (map (fate f) (replicate n kept)) ≡ []
+  no_edits f zero i = refl
+  no_edits f (suc n) i = no_edits f n (suc i)

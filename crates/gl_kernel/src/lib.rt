@@ -1,0 +1,19 @@
+//! What the lists that follow others are made of: lists that a log of edits changes and changes back without memory, and
+//! the building of the deltas that they tell. Each edit that is made leaves behind the one that takes it back.
+#![tactic(auto)]
+
+mod barcodes;
+mod edit;
+mod editable;
+mod list;
+mod log;
+mod plan;
+mod telling;
+
+pub use edit::Edit;
+pub use editable::Editable;
+pub use gl_value::Memory;
+pub use list::ValueList;
+pub use log::{apply, take_back};
+pub use plan::{Plan, element};
+pub use telling::{tell, tell_delete, tell_insert, tell_kept, tell_update};

@@ -1,0 +1,42 @@
+//! What a list that follows another is going to do.
+
+ghost use Rattle.std.specs.Prelude.{◌≡◌, ◌<◌, [], length, slice_get, Some};
+
+use crate::edit::Edit;
+use gl_delta::Delta;
+use gl_value::{Shelf, Value};
+use std::alloc::Global;
+
+/// What a list is going to tell, and the edits of what it keeps, for the elements of its input before a place.
+#[derive(Drop)]
+pub struct Plan<T> {
+    pub out: Delta,
+    pub log: Vec<Edit<T>>,
+    pub place: usize,
+}
+
+impl<T> Plan<T> {
+    /// Nothing is told yet. It takes no memory.
+    pub fn new(alloc: Global) -> Plan<T>
+        ensures out { result.out.pieces ≡ [] }
+        ensures log { result.log.items ≡ [] }
+        ensures place { result.place ≡ 0 }
+    {
+        Plan {
+            out: Delta::start(alloc),
+            log: Vec::new(alloc),
+            place: 0,
+        }
+    }
+}
+
+/// The element at a place of a shelf.
+pub fn element<S: Shelf>(input: &S, place: usize) -> &Value
+    requires { place < length (S.items input.now) }
+    ensures { slice_get (S.items input.now) place ≡ Some result.now }
+{
+    match input.get(place) {
+        Some(value) => value,
+        None => unreachable!(),
+    }
+}
