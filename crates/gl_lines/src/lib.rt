@@ -3,8 +3,12 @@
 //! How lines are written, and what plan they make, stands in the crates above.
 #![tactic(auto)]
 
+mod fault;
 mod line;
 mod named;
+mod plan;
 
+pub use fault::{Misplaced, PlanKind};
 pub use line::{Line, Lines, NumberedLine};
 pub use named::{Named, NamedList};
+pub use plan::{Command, ListDecl, ListKind, ListenerDecl};

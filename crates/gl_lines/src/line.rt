@@ -4,8 +4,7 @@ use crate::named::{Named, NamedList};
 use gl_lang::{Bounds, Func, Kids, Matcher, Order};
 use gl_value::{Items, Value, Values};
 
-/// A line of a plan's text, with what it names and says. The first line of a text is none, nor are those that are
-/// skipped.
+/// A line of a plan's text, with what it names and says. The first line of a text and the lines that are skipped are none.
 #[derive(Drop)]
 pub enum Line {
     /// No list of the plan is ever longer than this.

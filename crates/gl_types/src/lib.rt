@@ -8,6 +8,7 @@ mod duplicate;
 mod list;
 mod matcher;
 mod name;
+mod name_order;
 
 pub use command::{Command, Reply};
 pub use duplicate::{Duplicate, duplicates};

@@ -1,0 +1,7 @@
+pub mod Numbering
+pub mod Building
+pub mod Reaching
+pub mod Finds
+pub mod Early
+pub mod Few
+pub mod Passing

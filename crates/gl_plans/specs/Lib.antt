@@ -1,0 +1,6 @@
+pub mod Seen
+pub mod Before
+pub mod Table
+pub mod Marks
+pub mod Known
+pub mod Passed

@@ -1,0 +1,22 @@
+//! The faults of the lines of plans: `misplaced` finds the first line that may not stand where it stands or is one too many,
+//! and `first_fault` the first fault of all, names included.
+//! What lines mean together is defined in `spec_plans`.
+#![tactic(auto)]
+
+mod finding;
+mod judge;
+mod judging;
+mod known;
+mod line;
+mod listed;
+mod names;
+mod passed;
+mod placing;
+mod tables;
+#[cfg(test)]
+mod tests;
+
+pub use gl_lines::{Line, Lines, Misplaced, Named, NamedList, NumberedLine, PlanKind};
+pub use judging::first_fault;
+pub use placing::misplaced;
+pub use spec_plans::FaultAt;

@@ -1,0 +1,9 @@
+pub mod Along
+pub mod Lines
+pub mod Place
+pub mod Names
+pub mod NameFaults
+pub mod Plan
+pub mod Making
+pub mod Cycles
+pub mod Rows
