@@ -7,8 +7,10 @@ mod fault;
 mod line;
 mod named;
 mod plan;
+mod reply;
 
 pub use fault::{Misplaced, PlanKind};
 pub use line::{Line, Lines, NumberedLine};
 pub use named::{Named, NamedList};
 pub use plan::{Command, ListDecl, ListKind, ListenerDecl};
+pub use reply::Reply;

@@ -1,0 +1,87 @@
+-- The order in which the lists of a state are settled: each once, behind those that it depends on.
+use Rattle.std.proofs.Common.{◌≡◌, ℕ, zero, suc, ◌+◌, ◌<◌, List, [], ◌∷◌, ◌++◌, length, map, take, refl, ap, sym, subst, arith, inl, inr}
+use Rattle.std.specs.Prelude.{slice_get, slice_index, unwrap_or}
+use Rattle.std.specs.List.{Contains}
+use Rattle.std.proofs.Math.Seq.{take-append_seam}
+use Rattle.std.proofs.lemmas.List.{append_assoc, length-append}
+use Rattle.std.proofs.lemmas.List.Elements.{Contains-append_left, Contains-append_right}
+use Rattle.spec_order.specs.Edges.{DependsOn}
+use Rattle.spec_order.specs.Order.{IsNext, IsFront, IsOrder}
+use Rattle.spec_order.proofs.Exists.{order_or_cycle}
+use Rattle.spec_order.proofs.Members.{Contains-cons_cases, Contains-here, Contains-later}
+use Rattle.spec_plans.specs.Plan.{edges_from}
+use Rattle.spec_states.specs.State.{State, inputs, own_at, edges_of, turns}
+use Rattle.spec_states.specs.Laws.{IsOrdered}
+
+-- Of the items that are left, each comes once, and behind all that it depends on; these were placed before.
+abbrev pub Follow : (ℕ → List ℕ) → List ℕ → List ℕ → Type 0
+Follow needs placed [] = Unit {0}
+Follow needs placed (k ∷ ks) = ((i : ℕ) → Contains (needs k) i → Contains placed i) × (¬ Contains placed k) × Follow needs (placed ++ k ∷ []) ks
+
+-- what was placed isn't left
+pub placed_not_left : (needs : ℕ → List ℕ) (placed ks : List ℕ) (i : ℕ) → Follow needs placed ks → Contains placed i → ¬ Contains ks i
+placed_not_left needs placed [] i h c d = absurd (omega (arith, d.1))
+placed_not_left needs placed (k ∷ ks) i h c d = elim (Contains-cons_cases k ks i d) [
+  | inl e ↦ h.1 (subst (λ j. Contains placed j) (sym e) c)
+  | inr later ↦ placed_not_left needs (placed ++ k ∷ []) ks i h.2 (Contains-append_left placed (k ∷ []) i c) later
+]
+
+-- an edge and its ends
+abbrev edge : ℕ → ℕ → ℕ × ℕ
+edge a b = (a, b)
+
+edges_to : (a : ℕ) (xs : List ℕ) (x : ℕ) → Contains xs x → DependsOn (map (λ b. (a, b)) xs) a x
+edges_to a [] x c = absurd (omega (arith, c.1))
+edges_to a (y ∷ ys) x c = elim (Contains-cons_cases y ys x c) [
+  | inl e ↦ Contains-here (edge a y) (map (λ b. (a, b)) ys) (edge a x) (ap (edge a) e)
+  | inr later ↦ Contains-later (edge a y) (map (λ b. (a, b)) ys) (edge a x) (edges_to a ys x later)
+]
+
+-- the edges that an item has in the lists of edges
+edge_of : (number k i : ℕ) (needed : List (List ℕ)) → Contains (unwrap_or (slice_get needed k) []) i → DependsOn (edges_from number needed) (number + k) i
+edge_of number k i [] c = absurd (omega (arith, c.1))
+edge_of number zero i (n ∷ ns) c =
+    let e : number + 0 ≡ number = omega arith in
+    rw e (Contains-append_left (map (λ b. (number, b)) n) (edges_from (suc number) ns) (edge number i) (edges_to number n i c))
+edge_of number (suc k) i (n ∷ ns) c =
+    let e : number + suc k ≡ suc number + k = omega arith in
+    rw e (Contains-append_right (map (λ b. (number, b)) n) (edges_from (suc number) ns) (edge (suc number + k) i) (edge_of (suc number) k i ns c))
+
+-- the inputs of a list are dependencies
+inputs_at : (s : State) (k : ℕ) → unwrap_or (slice_get (map inputs s) k) [] ≡ inputs (own_at s k)
+inputs_at [] k = refl
+inputs_at (own ∷ s) zero = refl
+inputs_at (own ∷ s) (suc k) = inputs_at s k
+
+input_edge : (s : State) (k i : ℕ) → Contains (inputs (own_at s k)) i → DependsOn (edges_of s) k i
+input_edge s k i c =
+    let e : 0 + k ≡ k = omega arith in
+    subst (λ j. DependsOn (edges_of s) j i) e (edge_of 0 k i (map inputs s) (subst (λ xs. Contains xs i) (sym (inputs_at s k)) c))
+
+index_at_seam : (ys zs : List ℕ) (k : ℕ) → slice_index (ys ++ k ∷ zs) (length ys) ≡ k
+index_at_seam [] zs k = refl
+index_at_seam (y ∷ ys) zs k = index_at_seam ys zs k
+
+-- what comes next at each place follows what is placed
+front_follow : (n : ℕ) (edges : List (ℕ × ℕ)) (needs : ℕ → List ℕ) → ((k i : ℕ) → Contains (needs k) i → DependsOn edges k i)
+    → (placed ks : List ℕ) → IsFront n edges (placed ++ ks) → Follow needs placed ks
+front_follow n edges needs are placed [] front = tt
+front_follow n edges needs are placed (k ∷ ks) front =
+    let xs : List ℕ = placed ++ k ∷ ks in
+    let there : length placed < length xs = omega (arith, length-append placed (k ∷ ks)) in
+    let before : take (length placed) xs ≡ placed = take-append_seam placed (k ∷ ks) in
+    let here : slice_index xs (length placed) ≡ k = index_at_seam placed ks k in
+    let next : IsNext n edges placed k = subst (λ j. IsNext n edges placed j) here (subst (λ ys. IsNext n edges ys (slice_index xs (length placed))) before (front (length placed) there)) in
+    let rest : IsFront n edges ((placed ++ k ∷ []) ++ ks) = subst (IsFront n edges) (sym (append_assoc placed (k ∷ []) ks)) front in
+    ((λ i c. next.ready.free i (are k i c)), next.ready.waits, front_follow n edges needs are (placed ++ k ∷ []) ks rest)
+
+-- in the dependency order
+pub ordered : (s : State) → IsOrdered s → IsOrder (length s) (edges_of s) (turns s)
+ordered s h = elim (order_or_cycle (length s) (edges_of s) h.within) [
+  | inl order ↦ order
+  | inr cycle ↦ absurd (h.acyclic cycle)
+]
+
+-- each list follows those that it depends on
+pub turns_follow : (s : State) → IsOrdered s → Follow (λ k. inputs (own_at s k)) [] (turns s)
+turns_follow s h = front_follow (length s) (edges_of s) (λ k. inputs (own_at s k)) (λ k i c. input_edge s k i c) [] (turns s) (ordered s h).front
