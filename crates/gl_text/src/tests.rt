@@ -2,6 +2,8 @@
 
 use crate::{block_rows, read_plan, write_value};
 use gl_value::{Bytes, Value};
+use std::alloc::Global;
+use std::process::Abort;
 use std::test::Fail;
 
 const SPELLED: [&[u8]; 11] = [
@@ -67,13 +69,18 @@ const NOT_SPELLED: [&[u8]; 46] = [
     b"glaze 1\nsource s\nwriter\nsection\ninsert s 1\n",
 ];
 
+fn is_plan(rt: &impl Abort, alloc: Global, text: &[u8]) -> Result<bool, Fail> {
+    assert!(rt; text.len() < 1000);
+    Ok(read_plan(alloc, text)?.is_some())
+}
+
 #[test]
 fn reads_plans_alone(rt: HostRuntime) -> Result<(), Fail> {
     for text in SPELLED {
-        assert!(rt; read_plan(rt.alloc(), text)?.is_some(), "{text:?}");
+        assert!(rt; is_plan(&rt, rt.alloc(), text)?, "{text:?}");
     }
     for text in NOT_SPELLED {
-        assert!(rt; read_plan(rt.alloc(), text)?.is_none(), "{text:?}");
+        assert!(rt; !is_plan(&rt, rt.alloc(), text)?, "{text:?}");
     }
     Ok(())
 }
