@@ -9,8 +9,18 @@ use Rattle.gl_kernel.proofs.Spreading.{told_more}
 use Rattle.gl_kernel.proofs.Making.{append_nothing}
 use Rattle.gl_filter.specs.Kept.{Kept}
 use Rattle.gl_filter.specs.Told.{told_change, switch, switches}
-use Rattle.gl_filter.proofs.Changing.{change_split, switch_split, edits_first, drop_all, can_tell_change, question_split, mark_at}
+use Rattle.gl_filter.proofs.Changing.{change_split, switch_split, edits_first, drop_all, can_tell_change, question_split, mark_at, says_here}
 use Rattle.gl_filter.proofs.filter.Filter.replan.Goals as goal
+
+pub decide-is-requires : goal.decide-is-requires
+decide-is-requires g c =
+    let xs = g.S.Shelf.items c.args.input.now in
+    let old = accepts c.args.self.now.matcher in
+    let place = c.loop-place.place in
+    let x = c.element-v.result.now in
+    let marks = ap (λ (k : Kept). k.shown) c.self.view_is ∙ c.requires.stands in
+    let was = mark_at old xs place x c.shown-was.result c.element-v.ensures (ap (λ bs. slice_get bs place) (sym marks) ∙ c.shown-was.ensures) in
+    says_here c.args.kind c.args.self.now.matcher c.args.param.now x c.shown-was.result c.requires.says was
 
 pub tell_kept-requires : goal.tell_kept-requires
 tell_kept-requires g c =
