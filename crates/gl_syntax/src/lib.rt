@@ -12,6 +12,8 @@ mod text;
 mod value;
 
 pub use gl_value::{Bytes, Memory, Value};
+pub use number::{natural_ahead, number_ahead, positive_ahead};
 pub use spelling::{add_comma, add_number, add_signed, add_value, write_value};
-pub use stop::ReadFault;
-pub use value::read_value;
+pub use stop::{ReadFault, Stop, begins_with, word};
+pub use text::{text_ahead, text_of};
+pub use value::{elements_ahead, fault_at, read_value, value_ahead};

@@ -8,7 +8,7 @@ ghost use Rattle.gl_syntax.specs.Stop.{Reads};
 use crate::stop::Stop;
 
 /// The number and the bytes behind it.
-pub(crate) fn number_ahead(bytes: &[u8]) -> Result<(i64, &[u8]), Stop>
+pub fn number_ahead(bytes: &[u8]) -> Result<(i64, &[u8]), Stop>
     ensures { Reads result (read_number bytes.now) }
 {
     if let [b'-', digits @ ..] = bytes {
@@ -20,7 +20,7 @@ pub(crate) fn number_ahead(bytes: &[u8]) -> Result<(i64, &[u8]), Stop>
 }
 
 /// The number from 0 to `top`, and the bytes behind it.
-pub(crate) fn natural_ahead(top: u64, bytes: &[u8]) -> Result<(u64, &[u8]), Stop>
+pub fn natural_ahead(top: u64, bytes: &[u8]) -> Result<(u64, &[u8]), Stop>
     requires { 9 ≤ top }
     ensures read { Reads result (read_natural top bytes.now) }
     ensures within { IfOk result (λ x. x.0 ≤ top) }
@@ -31,8 +31,8 @@ pub(crate) fn natural_ahead(top: u64, bytes: &[u8]) -> Result<(u64, &[u8]), Stop
     }
 }
 
-// The number from 1 to `top`, and the bytes behind it.
-fn positive_ahead(top: u64, bytes: &[u8]) -> Result<(u64, &[u8]), Stop>
+/// The number from 1 to `top`, and the bytes behind it.
+pub fn positive_ahead(top: u64, bytes: &[u8]) -> Result<(u64, &[u8]), Stop>
     requires { 9 ≤ top }
     ensures read { Reads result (read_positive top bytes.now) }
     ensures some { IfOk result (λ x. 0 < x.0) }

@@ -22,7 +22,7 @@ pub enum ReadFault {
 
 /// Why a reader went no further.
 #[derive(Clone, Copy)]
-pub(crate) enum Stop {
+pub enum Stop {
     /// What it reads can't go on with the bytes that are left, which are so many.
     Form { left: usize },
     /// There was no memory.
@@ -42,7 +42,7 @@ impl From<AllocError> for Stop {
 
 /// What is behind the word, with which the bytes must begin.
 #[tactic(auto, using(crate::proofs::Words::word_past))]
-pub(crate) fn word<'a>(word: &[u8], bytes: &'a [u8]) -> Result<&'a [u8], Stop>
+pub fn word<'a>(word: &[u8], bytes: &'a [u8]) -> Result<&'a [u8], Stop>
     ensures { MatchResult result (λ rest. read_word word.now bytes.now ≡ found tt rest.now)
         (IsStop (read_word word.now bytes.now)) }
 {
@@ -60,7 +60,7 @@ pub(crate) fn word<'a>(word: &[u8], bytes: &'a [u8]) -> Result<&'a [u8], Stop>
 }
 
 /// Whether the first byte is this one.
-pub(crate) fn begins_with(byte: u8, bytes: &[u8]) -> bool
+pub fn begins_with(byte: u8, bytes: &[u8]) -> bool
     ensures { result ≡ first_is (is byte) bytes.now }
 {
     match bytes {

@@ -13,7 +13,7 @@ use std::alloc::Global;
 
 /// The text and the bytes behind it. It takes memory for the text, and for its bytes while they are read.
 #[tactic(auto, using(spec_syntax::proofs::Enclosed::text_found, spec_syntax::proofs::Enclosed::text_stops, spec_syntax::proofs::Enclosed::text_stops_inside, spec_syntax::proofs::Enclosed::text_stops_last, spec_syntax::proofs::Utf8::text_is_utf8,))]
-pub(crate) fn text_ahead(alloc: Global, bytes: &[u8]) -> Result<(Text, &[u8]), Stop>
+pub fn text_ahead(alloc: Global, bytes: &[u8]) -> Result<(Text, &[u8]), Stop>
     ensures { Reads result (read_text bytes.now) }
 {
     let inside = word(b"\"", bytes)?;
@@ -23,8 +23,8 @@ pub(crate) fn text_ahead(alloc: Global, bytes: &[u8]) -> Result<(Text, &[u8]), S
     Ok((text, behind))
 }
 
-// The text of these bytes.
-fn text_of(alloc: Global, bytes: &[u8]) -> Result<Text, Stop>
+/// The text of these bytes. It takes memory for the text.
+pub fn text_of(alloc: Global, bytes: &[u8]) -> Result<Text, Stop>
     requires { IsUtf8 bytes.now }
     ensures { MatchResult result (λ text. text ≡ bytes.now) (λ stop. stop ≡ Stop.Memory) }
 {

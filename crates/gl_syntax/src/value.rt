@@ -32,8 +32,8 @@ pub fn read_value(alloc: Global, bytes: &[u8]) -> Result<Value, ReadFault>
     }
 }
 
-// The fault in the column of the first of the bytes that are left.
-fn fault_at(bytes: &[u8], left: usize) -> ReadFault
+/// The fault in the column of the first of the bytes that are left.
+pub fn fault_at(bytes: &[u8], left: usize) -> ReadFault
     requires { left ≤ length bytes.now }
     ensures { result ≡ ReadFault.Form (length bytes.now - left + 1) }
 {
@@ -45,7 +45,7 @@ fn fault_at(bytes: &[u8], left: usize) -> ReadFault
 /// The value, nested at most so deep, and the bytes behind it.
 #[cycle(value)]
 #[tactic(auto, using(spec_syntax::proofs::Enclosed::nested_list, spec_syntax::proofs::Enclosed::nested_leaf, spec_syntax::proofs::Enclosed::nested_flat,))]
-pub(crate) fn value_ahead(alloc: Global, depth: usize, bytes: &[u8]) -> Result<(Value, &[u8]), Stop>
+pub fn value_ahead(alloc: Global, depth: usize, bytes: &[u8]) -> Result<(Value, &[u8]), Stop>
     ensures { Reads result (read_nested depth bytes.now) }
 {
     if depth > 0 && begins_with(b'[', bytes) {
@@ -68,7 +68,7 @@ fn list_ahead(alloc: Global, depth: usize, bytes: &[u8]) -> Result<(Value, &[u8]
 
 #[cycle(value)]
 #[tactic(auto, using(spec_syntax::proofs::Enclosed::elements_none, spec_syntax::proofs::Enclosed::elements_found, spec_syntax::proofs::Enclosed::elements_stop,))]
-fn elements_ahead(alloc: Global, depth: usize, bytes: &[u8]) -> Result<(Values, &[u8]), Stop>
+pub fn elements_ahead(alloc: Global, depth: usize, bytes: &[u8]) -> Result<(Values, &[u8]), Stop>
     ensures { Reads result (read_elements (read_nested depth) bytes.now) }
 {
     if begins_with(b']', bytes) {

@@ -17,7 +17,7 @@ differ_missed (c ∷ w) (d ∷ x) y t h = elim (cases_eq c d) as (λ _. length y
   | inr ne ↦ omega (arith, missed-other d c (x ++ t) (w ++ y) (λ e. ne (sym e)), length-append w y)
 ]
 
-differ_turned : (w x : List ℕ) → differ w x ≡ true → differ x w ≡ true
+pub differ_turned : (w x : List ℕ) → differ w x ≡ true → differ x w ≡ true
 differ_turned [] x h = absurd (false≢true h)
 differ_turned (c ∷ w) [] h = absurd (false≢true h)
 differ_turned (c ∷ w) (d ∷ x) h = elim (cases_eq c d) as (λ _. differ (d ∷ x) (c ∷ w) ≡ true) [

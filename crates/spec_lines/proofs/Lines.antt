@@ -88,7 +88,7 @@ spaced c h = ap is_name_byte (same c h)
 not_comma : (c : ℕ) → is 32 c ≡ true → is 44 c ≡ false
 not_comma c h = grind (arith, nat_tests)
 
-ending_reads : (n : ℕ) (e : Ending) → Reads n (ending e) no_more (read_ending e)
+pub ending_reads : (n : ℕ) (e : Ending) → Reads n (ending e) no_more (read_ending e)
 ending_reads n after_names =
     seq_reads n (listed name (codes ",")) (optional false echo) no_more (read_names 44 (codes ",")) (maybe false (is 32) read_echo)
     (names_reads n 44 [] (followed (optional false echo) no_more) refl (has_optional false echo)
@@ -148,7 +148,7 @@ func_ends n = func_reads n 8 no_more none_behind (ends on_path)
 name_ends : (n : ℕ) → Reads n name no_more read_name
 name_ends n = name_reads n no_more none_behind (ends is_name_byte)
 
-formed_reads : (n : ℕ) (k : ℕ × Form) → Reads n (formed k) no_more (read_formed k)
+pub formed_reads : (n : ℕ) (k : ℕ × Form) → Reads n (formed k) no_more (read_formed k)
 formed_reads n (column, bare l) = made_of_reads n (λ _. l) empty no_more nothing (λ bs h. nothing_step no_more bs)
 formed_reads n (column, limited) = made_of_reads n line.Limit (positive 16777216) no_more (read_positive 16777216) (positive_reads n 16777216 no_more none_behind (ends is_digit))
 formed_reads n (column, one_name k) = made_of_reads n (λ m. k (at column m)) name no_more read_name (name_ends n)

@@ -26,7 +26,7 @@ use Rattle.spec_syntax.proofs.Paths.{on_path, begun_path, has_path, path_reads}
 has_tested : (test : Test) → Has (tested test)
 has_tested test = let some : Has (value 64) = has_value 64 in ((test, some.0), some.1, (some.0, some.2, refl))
 
-tested_reads : (n : ℕ) (F : Tails) → HasTail F → Unbegun is_digit F → (test : Test) → Reads n (tested test) F (read_tested test)
+pub tested_reads : (n : ℕ) (F : Tails) → HasTail F → Unbegun is_digit F → (test : Test) → Reads n (tested test) F (read_tested test)
 tested_reads n F some un test = made_of_reads n (λ v. (test, v)) (value 64) F (read_nested 64) (value_reads n 64 F some un)
 
 begun_tests : Begun (is 32) (words tested test_words)
@@ -44,7 +44,7 @@ tests_read n F some un =
     (codes " = ", Eq) ((codes " != ", Ne) ∷ (codes " < ", Lt) ∷ (codes " <= ", Le) ∷ (codes " > ", Gt) ∷ (codes " >= ", Ge) ∷ [])
     ((refl, (refl, (refl, (refl, (refl, tt))))), ((refl, (refl, (refl, (refl, tt)))), ((refl, (refl, (refl, tt))), ((refl, (refl, tt)), ((refl, tt), (tt, tt))))))
 
-comparison_reads : (n : ℕ) → ReadsAhead n is_digit comparison read_comparison
+pub comparison_reads : (n : ℕ) → ReadsAhead n is_digit comparison read_comparison
 comparison_reads n F some un =
     made_of_reads n (λ c. meant.is c.0 c.1.0 c.1.1) (both path (words tested test_words)) F (seq read_path (table read_tested test_words))
     (seq_reads n path (words tested test_words) F read_path (table read_tested test_words)
@@ -57,7 +57,7 @@ begun_comparison m t s = begun_front t s.1.0 s.1.1 (begun_path s.0.0 s.1.0 s.1.2
     begun_front : (t u v : List ℕ) → first_is (is 46) u ≡ true → t ≡ u ++ v → first_is (is 46) t ≡ true
     begun_front t u v h e = ap (first_is (is 46)) e ∙ first_is-append (is 46) u v h
 
-has_comparison : Has comparison
+pub has_comparison : Has comparison
 has_comparison =
     let one : Has (words tested test_words) = has_tests in
     (meant.is [] one.0.0 one.0.1, 46 ∷ one.1, (([], one.0), (46 ∷ [], one.1, has_path.2, one.2, refl), refl))
@@ -89,7 +89,7 @@ has_formed U has (ready m) = (m, [], (tt, refl, refl))
 has_formed U has negated = (meant.negation has.0, has.1, (has.0, has.2, refl))
 has_formed U has enclosed = let some : Has (chain U) = has_chain U has in (some.0, some.1 ++ 41 ∷ [], ((some.0, tt), (some.1, 41 ∷ [], some.2, refl, refl), refl))
 
-formed_reads : (n : ℕ) (U : Grammar meant.Matcher) (r : Reader meant.Matcher) (F : Tails) → Has U → HasTail F → Unbegun is_digit F → ReadsAhead n is_digit U r → (form : Form) → Reads n (formed U form) F (read_formed r form)
+pub formed_reads : (n : ℕ) (U : Grammar meant.Matcher) (r : Reader meant.Matcher) (F : Tails) → Has U → HasTail F → Unbegun is_digit F → ReadsAhead n is_digit U r → (form : Form) → Reads n (formed U form) F (read_formed r form)
 formed_reads n U r F has some un reads (ready m) = made_of_reads n (λ _. m) empty F nothing (λ bs h. nothing_step F bs)
 formed_reads n U r F has some un reads negated = made_of_reads n meant.negation U F r (reads F some un)
 formed_reads n U r F has some un reads enclosed =

@@ -13,7 +13,7 @@ use Rattle.spec_grammar.proofs.Repetitions.{Begun, Unbegun}
 use Rattle.spec_syntax.specs.Name.{name, named, unnamed, read_name}
 use Rattle.spec_syntax.proofs.Lists.{ReadsAhead}
 
-unnamed_le : (most : ℕ) (bs : List ℕ) → length (unnamed most bs) ≤ length bs
+pub unnamed_le : (most : ℕ) (bs : List ℕ) → length (unnamed most bs) ≤ length bs
 unnamed_le zero bs = omega arith
 unnamed_le (suc most) [] = omega arith
 unnamed_le (suc most) (b ∷ bs) = elim (cases_Bool (is_name_byte b)) as (λ _. length (unnamed (suc most) (b ∷ bs)) ≤ length (b ∷ bs)) [
@@ -21,7 +21,8 @@ unnamed_le (suc most) (b ∷ bs) = elim (cases_Bool (is_name_byte b)) as (λ _. 
   | inr e ↦ omega (arith, ap (λ x. length (cond x (unnamed most bs) (b ∷ bs))) e)
 ]
 
-named_parts : (most : ℕ) (bs : List ℕ) → bs ≡ named most bs ++ unnamed most bs
+-- the bytes at the front, and those behind them
+pub named_parts : (most : ℕ) (bs : List ℕ) → bs ≡ named most bs ++ unnamed most bs
 named_parts zero bs = refl
 named_parts (suc most) [] = refl
 named_parts (suc most) (b ∷ bs) = elim (cases_Bool (is_name_byte b)) as (λ _. (b ∷ bs) ≡ named (suc most) (b ∷ bs) ++ unnamed (suc most) (b ∷ bs)) [

@@ -107,7 +107,7 @@ has_two k =
     let zero_is = (has_natural 4294967295).2 in
     (k 0 0, 48 ∷ 32 ∷ 48 ∷ [], ((0, 0), (48 ∷ [], 32 ∷ 48 ∷ [], zero_is, ((tt, 0), (32 ∷ [], 48 ∷ [], refl, zero_is, refl), refl), refl), refl))
 
-two_reads : (n : ℕ) (F : Tails) → HasTail F → Unbegun is_digit F → (k : ℕ → ℕ → Bounds) → Reads n (two_numbers k) F (read_two_numbers k)
+pub two_reads : (n : ℕ) (F : Tails) → HasTail F → Unbegun is_digit F → (k : ℕ → ℕ → Bounds) → Reads n (two_numbers k) F (read_two_numbers k)
 two_reads n F some un k =
     made_of_reads n (λ ab. k ab.0 ab.1) (apart short_number (codes " ") short_number) F (sep read_short (codes " ") read_short)
     (sep_reads n short_number (codes " ") short_number F read_short read_short (has_natural 4294967295) some

@@ -75,7 +75,7 @@ encoded c bs e h = subst IsUtf8 e (IsUtf8-encode c h)
 above : (low x : ℕ) → low ≤ x → (n : ℕ) × (x ≡ low + n)
 above low x h = (x - low, omega arith)
 
-ascii_utf8 : (b : ℕ) → b < 128 → IsUtf8 (b ∷ [])
+pub ascii_utf8 : (b : ℕ) → b < 128 → IsUtf8 (b ∷ [])
 ascii_utf8 b h = encoded b (b ∷ []) (one b h) (low b (omega arith))
 
 two_utf8 : (b x : ℕ) → 194 ≤ b → b < 224 → 128 ≤ x → x ≤ 191 → IsUtf8 (b ∷ x ∷ [])

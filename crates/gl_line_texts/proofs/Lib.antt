@@ -1,0 +1,5 @@
+pub mod Tables
+pub mod Names
+pub mod Parts
+pub mod Words
+pub mod Funcs
