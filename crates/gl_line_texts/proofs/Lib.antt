@@ -3,3 +3,4 @@ pub mod Names
 pub mod Parts
 pub mod Words
 pub mod Funcs
+pub mod Chains

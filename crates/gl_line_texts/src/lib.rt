@@ -5,6 +5,7 @@
 
 mod bounds;
 mod func;
+mod matcher;
 mod name;
 mod path;
 mod table;

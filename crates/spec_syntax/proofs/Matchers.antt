@@ -63,7 +63,7 @@ has_comparison =
     (meant.is [] one.0.0 one.0.1, 46 ∷ one.1, (([], one.0), (46 ∷ [], one.1, has_path.2, one.2, refl), refl))
 
 -- units with " and " or " or " between them
-begun_joined : (U : Grammar meant.Matcher) → Begun (is 32) (words (joined_unit U) joint_words)
+pub begun_joined : (U : Grammar meant.Matcher) → Begun (is 32) (words (joined_unit U) joint_words)
 begun_joined U = begun_words (is 32) (joined_unit U) joint_words (refl, (refl, tt))
 
 undigit : (b : ℕ) → is 32 b ≡ true → is_digit b ≡ false
