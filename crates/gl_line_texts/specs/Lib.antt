@@ -1,3 +1,4 @@
 pub mod Table
 pub mod Ends
 pub mod Chains
+pub mod Named

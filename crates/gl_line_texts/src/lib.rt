@@ -7,5 +7,6 @@ mod bounds;
 mod func;
 mod matcher;
 mod name;
+mod named;
 mod path;
 mod table;
