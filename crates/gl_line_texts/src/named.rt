@@ -38,7 +38,11 @@ pub(crate) fn spaced_name(alloc: Global, column: u64, bytes: &[u8]) -> Result<(N
 }
 
 /// A name, a space and a value.
-pub(crate) fn name_value(alloc: Global, column: u64, bytes: &[u8]) -> Result<((Named, Value), &[u8]), Stop>
+pub(crate) fn name_value(
+    alloc: Global,
+    column: u64,
+    bytes: &[u8],
+) -> Result<((Named, Value), &[u8]), Stop>
     ensures { Reads result (made (λ ab. (at column ab.0, ab.1)) (sep read_name (codes " ") (read_nested 64) bytes.now)) }
 {
     let (name, rest) = spaced_name(alloc, column, bytes)?;
