@@ -1,6 +1,6 @@
-//! Readers and writers of the lines of plan texts, each line in its one spelling. What bytes spell is defined in
-//! `spec_syntax` and `spec_lines`. A reader goes once over the bytes and says in which column they leave the grammar;
-//! a writer adds to bytes, and leaves them as they were where memory runs out.
+//! Readers of what the lines of plan texts are made of: names in their columns, paths, orders, bounds, functions and
+//! matchers. What bytes spell is defined in `spec_syntax` and `spec_lines`. A reader goes once over the bytes, and where
+//! they leave the grammar says how many are left.
 #![tactic(auto)]
 
 mod bounds;
