@@ -68,6 +68,7 @@ impl RunRow {
     }
 
     pub(crate) fn height(&self) -> usize
+        ensures deep { length self.now.runs < 2 ^ result }
         ensures shallow { (digits : ℕ) → length self.now.runs < 2 ^ digits → result ≤ 2 * digits }
     {
         self.tree.height()

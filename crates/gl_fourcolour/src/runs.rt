@@ -55,6 +55,7 @@ impl<const C: usize> Runs<C> {
 
     /// The number of levels of the tree: at most twice the binary digits of the number of runs.
     pub fn height(&self) -> usize
+        ensures deep { run_count self.now.colours < 2 ^ result }
         ensures shallow { (digits : ℕ) → run_count self.now.colours < 2 ^ digits → result ≤ 2 * digits }
     {
         self.row.height()
