@@ -1,5 +1,6 @@
 pub mod Along
 pub mod Lines
+pub mod Numbered
 pub mod Place
 pub mod Names
 pub mod NameFaults

@@ -11,13 +11,9 @@ use Rattle.gl_lines.specs.declared.fault.PlanKind.{PlanKind}
 use Rattle.gl_lines.specs.declared.fault.PlanKind.TheVariants.{Place, Many, Taken, Unknown, Kind, Member, Second, OverProxy}
 use Rattle.spec_plans.specs.declared.fault.FaultAt.{FaultAt}
 use Rattle.spec_plans.specs.NameFaults.{first_fault_at}
+use Rattle.spec_plans.specs.Numbered.{numbered}
 use Rattle.spec_plans.specs.Plan.{list_edges, listener_edges}
 use Rattle.spec_plans.specs.Making.{plan_of}
-
--- lines, numbered from a number on
-abbrev pub numbered : ℕ → List Line → List NumberedLine
-numbered n [] = []
-numbered n (l ∷ ls) = record { line = n; what = l } ∷ numbered (suc n) ls
 
 -- a name at a column
 abbrev pub at : ℕ → List ℕ → Named

@@ -1,0 +1,3 @@
+pub mod Canonical
+pub mod WellFormed
+pub mod Rows
