@@ -5,3 +5,8 @@ pub mod Used
 pub mod SoundLists
 pub mod SoundNeeds
 pub mod SoundCommands
+pub mod SoundUndone
+pub mod SoundFew
+pub mod Walks
+pub mod SoundProxies
+pub mod Sound

@@ -36,7 +36,7 @@ abbrev pub command_part : Part → Option Command
 command_part (parts.Command c) = Some c
 command_part other = None
 
-given_first : {X : Type 0} (o : Option X) (xs : List X) → option_to_list o ++ xs ≡ cons_option o xs
+pub given_first : {X : Type 0} (o : Option X) (xs : List X) → option_to_list o ++ xs ≡ cons_option o xs
 given_first None xs = refl
 given_first (Some x) xs = refl
 

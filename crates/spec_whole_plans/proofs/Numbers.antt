@@ -61,11 +61,11 @@ pub name_at_number : (names : List (List ℕ)) (name : List ℕ) (k : ℕ) → n
 unfolding Found
 name_at_number names name k e = subst (Found names name) e (found names name)
 
-same_bytes : (x : List ℕ) → bytes_eq x x ≡ true
+pub same_bytes : (x : List ℕ) → bytes_eq x x ≡ true
 same_bytes x = (bytes_eq-Decides x x).1 refl
 
 -- an item of a list, by its place
-all_at : {X : Type 0} (P : X → Type 0) (xs : List X) (k : ℕ) (x : X) → AllByRecursion P xs → slice_get xs k ≡ Some x → P x
+pub all_at : {X : Type 0} (P : X → Type 0) (xs : List X) (k : ℕ) (x : X) → AllByRecursion P xs → slice_get xs k ≡ Some x → P x
 all_at P [] k x h e = absurd (none-some x e)
 all_at P (y ∷ ys) zero x h e = subst P (same_Some y x e) h.0
 all_at P (y ∷ ys) (suc k) x h e = all_at P ys k x h.1 e

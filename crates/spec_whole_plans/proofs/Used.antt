@@ -71,7 +71,7 @@ module _ (p : Plan) where
       by false m g = absurd (none-some _ (sym g))
 
 -- whether names are taken or second, as a test
-unless : (t : Bool) (f : NameFault) → cond t (Some f) None ≡ None → t ≡ false
+pub unless : (t : Bool) (f : NameFault) → cond t (Some f) None ≡ None → t ≡ false
 unless true f e = absurd (none-some f (sym e))
 unless false f e = refl
 
