@@ -10,3 +10,5 @@ pub mod SoundFew
 pub mod Walks
 pub mod SoundProxies
 pub mod Sound
+pub mod Written
+pub mod Folded

@@ -49,11 +49,11 @@ any_from test (y ∷ ys) x c t = elim (Contains-cons_cases y ys x c) [
 ]
 
 -- a list that a plan has needs lists that it has
-have_list : (p : Plan) (need : Option ListClass) (k : ℕ) → HasList p need k → k < length p.lists
+pub have_list : (p : Plan) (need : Option ListClass) (k : ℕ) → HasList p need k → k < length p.lists
 have_list p None k l = l
 have_list p (Some class) k l = has_class p k class l
 
-within_plan : (p : Plan) → All (λ d. HasInputs p d.kind) p.lists → (a x : ℕ) → Contains (inputs_at p a) x → x < length p.lists
+pub within_plan : (p : Plan) → All (λ d. HasInputs p d.kind) p.lists → (a x : ℕ) → Contains (inputs_at p a) x → x < length p.lists
 within_plan p h a x c = by (slice_get p.lists a) refl c
   where
     by : (o : Option ListDecl) → slice_get p.lists a ≡ o → Contains (unwrap_or (option_map (λ d. inputs_of d.kind) o) []) x → x < length p.lists
