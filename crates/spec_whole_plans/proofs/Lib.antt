@@ -12,3 +12,4 @@ pub mod SoundProxies
 pub mod Sound
 pub mod Written
 pub mod Folded
+pub mod Makes

@@ -86,7 +86,7 @@ module _ {Y : Type 0} (f : Line → Option Y) (names : List (List ℕ)) (writer 
   nothing_of_writers writers = flat_given f (lines_of_writer names) (λ sections. []) nothing_of_writer writers ∙ flat_none writers
 
 
-abbrev rows_of_kind : ListKind → List Tree
+abbrev pub rows_of_kind : ListKind → List Tree
 rows_of_kind (kinds.Source rows) = rows
 rows_of_kind other = []
 
