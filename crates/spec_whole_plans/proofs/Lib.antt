@@ -13,3 +13,4 @@ pub mod Sound
 pub mod Written
 pub mod Folded
 pub mod Makes
+pub mod Placed
