@@ -14,3 +14,4 @@ pub mod Written
 pub mod Folded
 pub mod Makes
 pub mod Placed
+pub mod Uses
