@@ -15,3 +15,4 @@ pub mod Folded
 pub mod Makes
 pub mod Placed
 pub mod Uses
+pub mod NamesFine

@@ -80,7 +80,7 @@ module _ (p : Plan) (h : IsWellFormed p) (n : ℕ) where
       recursion_from_All (HasList p (input_need (class_of_kind d.kind))) (inputs_of d.kind)
       (all_at (λ (m : ListDecl). HasInputs p m.kind) p.lists k d (recursion_from_All (λ (m : ListDecl). HasInputs p m.kind) p.lists h.inputs) e)
 
-  together : (kind : ListKind) → inputs_of kind ≡ members_of kind ++ may_of kind
+  pub together : (kind : ListKind) → inputs_of kind ≡ members_of kind ++ may_of kind
   together (kinds.Composite members may) = refl
   together (kinds.Source rows) = refl
   together other = refl

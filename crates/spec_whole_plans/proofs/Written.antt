@@ -30,6 +30,10 @@ pub given_numbered : {Y : Type 0} (f : Line → Option Y) (n : ℕ) (ls : List L
 given_numbered f n [] = refl
 given_numbered f n (l ∷ ls) = ap (cons_option (f l)) (given_numbered f (suc n) ls)
 
+pub mapped_twice : {X Y Z : Type 0} (u : Y → Z) (f : X → Y) (xs : List X) → map u (map f xs) ≡ map (λ x. u (f x)) xs
+mapped_twice u f [] = refl
+mapped_twice u f (x ∷ xs) = ap (λ zs. u (f x) ∷ zs) (mapped_twice u f xs)
+
 nothing_mapped : {X Y Z : Type 0} (f : Y → Option Z) (g : X → Y) → ((x : X) → f (g x) ≡ None) → (xs : List X) → filter_map f (map g xs) ≡ []
 nothing_mapped f g none [] = refl
 nothing_mapped f g none (x ∷ xs) = ap (λ o. cons_option o (filter_map f (map g xs))) (none x) ∙ nothing_mapped f g none xs
@@ -102,7 +106,7 @@ no_row : (names all : List (List ℕ)) (k : ℕ) (c : Command) → row_for all k
 no_row names all k (commands.Show list) = refl
 no_row names all k other = refl
 
-no_hearer_of_list : (names : List (List ℕ)) (name : Named) (kind : ListKind) → hearer_of (list_line names name kind) ≡ None
+pub no_hearer_of_list : (names : List (List ℕ)) (name : Named) (kind : ListKind) → hearer_of (list_line names name kind) ≡ None
 no_hearer_of_list names name (kinds.Source rows) = refl
 no_hearer_of_list names name other = refl
 
@@ -174,10 +178,6 @@ module _ (p : Plan) where
       ∙ ap (λ hs. filter_map hearer_of listener_lines ++ hs) (nothing_of_writers hearer_of lists refl refl (no_hearer lists) p.writers)
       ∙ append-nil (filter_map hearer_of listener_lines)
       ∙ hearers_mapped p.listeners
-
-  mapped_twice : {X Y Z : Type 0} (u : Y → Z) (f : X → Y) (xs : List X) → map u (map f xs) ≡ map (λ x. u (f x)) xs
-  mapped_twice u f [] = refl
-  mapped_twice u f (x ∷ xs) = ap (λ zs. u (f x) ∷ zs) (mapped_twice u f xs)
 
   pub names_written : (n : ℕ) → list_names (numbered n (lines_of_plan p)) ≡ names_of_lists p
   names_written n = ap (map (λ (h : Head). h.name.name)) (heads_written n) ∙ mapped_twice (λ (h : Head). h.name.name) (list_head lists) p.lists
