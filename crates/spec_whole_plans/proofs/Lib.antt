@@ -16,3 +16,4 @@ pub mod Makes
 pub mod Placed
 pub mod Uses
 pub mod NamesFine
+pub mod NamesPassed
