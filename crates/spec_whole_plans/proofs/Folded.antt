@@ -63,7 +63,7 @@ module _ (names listeners : List (List ℕ)) (rows : ℕ → List Tree) where
   -- commands of a section that is open
   commands_add : (p : Plan) (writers : List (List (List Command))) (sections : List (List Command)) (commands more : List Command) (rest : List Line) → AreSaid more
       → then (record p { writers = writers ++ (sections ++ commands ∷ []) ∷ [] }) (map (command_line names) more ++ rest)
-          ≡ then (record p { writers = writers ++ (sections ++ (commands ++ more) ∷ []) ∷ [] }) rest
+      ≡ then (record p { writers = writers ++ (sections ++ (commands ++ more) ∷ []) ∷ [] }) rest
   commands_add p writers sections commands [] rest h =
       ap (λ cs. then (record p { writers = writers ++ (sections ++ cs ∷ []) ∷ [] }) rest) (sym (append-nil commands))
   commands_add p writers sections commands (c ∷ cs) rest h =

@@ -1,5 +1,5 @@
 -- Nothing is wrong with the names of the lists of a well formed plan, in its lines.
-use Rattle.std.proofs.Common.{◌≡◌, ◌∙◌, ℕ, zero, suc, ◌<◌, ◌==◌, ◌&&◌, Bool, true, false, cond, List, [], ◌∷◌, ◌++◌, length, map, Option, Some, None, refl, sym, ap, subst, arith, eq-eqb, true≢false}
+use Rattle.std.proofs.Common.{◌≡◌, ◌∙◌, ℕ, suc, ◌<◌, ◌==◌, ◌&&◌, Bool, true, false, cond, List, [], ◌∷◌, ◌++◌, length, map, Option, Some, None, refl, sym, ap, subst, eq-eqb, true≢false}
 use Rattle.std.specs.Prelude.{if◌then◌else◌, option_map, option_to_list, filter_map, slice_get, bytes_eq}
 use Rattle.std.specs.Option.{is_some, option_or}
 use Rattle.std.specs.List.{cons_option, AllByRecursion, IsDistinct}
@@ -21,7 +21,7 @@ use Rattle.spec_plans.specs.Lines.{Head}
 use Rattle.spec_plans.specs.Names.{number_of, is_over_proxy}
 use Rattle.spec_plans.specs.NameFaults.{wrong, first_fault, taken_fault, use_fault, input_need, is_undone, undone_inputs, second_fault, shuns_proxies, proxy_fault}
 use Rattle.spec_plans.specs.Plan.{Plan, inputs_of}
-use Rattle.spec_whole_plans.specs.Canonical.{unplaced_name, named, names_of_lists, names_of_listeners}
+use Rattle.spec_whole_plans.specs.Canonical.{unplaced_name, named}
 use Rattle.spec_whole_plans.specs.WellFormed.{class_of_kind, class_at, undone_input, undone_inputs_of, HasList, IsWellFormed}
 use Rattle.spec_whole_plans.proofs.Numbers.{position_in_front}
 use Rattle.spec_whole_plans.proofs.Said.{all_given, all_weaker}

@@ -1,13 +1,12 @@
 -- Nothing is wrong with the names of any line of a well formed plan.
-use Rattle.std.proofs.Common.{◌≡◌, ◌∙◌, ℕ, zero, suc, ◌<◌, Bool, true, false, List, [], ◌∷◌, ◌++◌, length, map, Option, Some, None, refl, sym, ap, subst, append-nil, append_assoc}
-use Rattle.std.specs.Prelude.{if◌then◌else◌, option_map, option_and_then, option_to_list, filter_map, flat_map, slice_get, unwrap_or, bytes_eq, Contains}
+use Rattle.std.proofs.Common.{◌≡◌, ◌∙◌, ℕ, suc, ◌<◌, true, false, List, [], ◌∷◌, ◌++◌, length, map, Option, Some, None, refl, sym, ap, subst, append-nil, append_assoc}
+use Rattle.std.specs.Prelude.{if◌then◌else◌, option_map, option_and_then, option_to_list, flat_map, slice_get, unwrap_or, bytes_eq, Contains}
 use Rattle.std.specs.Option.{is_some, option_or}
 use Rattle.std.specs.List.{AllByRecursion, IsDistinct}
 use Rattle.std.proofs.lemmas.Option.{slice_get-map}
 use Rattle.std.proofs.lemmas.List.{length-map, map-append}
 use Rattle.std.proofs.lemmas.List.Elements.{recursion_from_All}
 use Rattle.spec_value.specs.Tree.{Tree}
-use Rattle.gl_lines.specs.declared.named.Named.{Named}
 use Rattle.gl_lines.specs.declared.line.Line.{Line}
 use Rattle.gl_lines.specs.declared.line.Line.TheVariants as line
 use Rattle.gl_lines.specs.declared.line.NumberedLine.{NumberedLine}
@@ -25,14 +24,14 @@ use Rattle.spec_plans.specs.declared.fault.NameFault.{NameFault}
 use Rattle.spec_plans.specs.declared.fault.FaultAt.{FaultAt}
 use Rattle.spec_plans.specs.declared.class.ListClass.TheVariants.{Edited}
 use Rattle.spec_plans.specs.Along.{first_behind}
-use Rattle.spec_plans.specs.Lines.{Head, Hearer, head_of, hearer_of, fed_by, commanded_by, attached_by}
-use Rattle.spec_plans.specs.Names.{heads, hearers, list_names, listener_names, number_of, needed, depends_on}
+use Rattle.spec_plans.specs.Lines.{Head, Hearer, head_of, hearer_of, fed_by, commanded_by}
+use Rattle.spec_plans.specs.Names.{heads, hearers, list_names, number_of, depends_on}
 use Rattle.spec_plans.specs.NameFaults.{wrong, first_fault, taken_fault, use_fault, after_fault, member_fault, attach_fault, command_fault, naming, first_misnamed, first_fault_at}
 use Rattle.spec_plans.specs.Numbered.{numbered}
 use Rattle.spec_plans.specs.Place.{first_misplaced}
 use Rattle.spec_plans.specs.Plan.{Plan}
-use Rattle.spec_whole_plans.specs.Canonical.{unplaced_name, named, names_of_lists, names_of_listeners, list_line, row_lines, lines_of_list, listener_line, command_line, lines_of_section, lines_of_writer, lines_of_plan}
-use Rattle.spec_whole_plans.specs.WellFormed.{class_of_kind, class_at, inputs_at, list_of, needed_class, all_commands, HasList, HasHeard, IsAttachable, IsWellFormed}
+use Rattle.spec_whole_plans.specs.Canonical.{unplaced_name, named, names_of_listeners, list_line, row_lines, lines_of_list, listener_line, command_line, lines_of_section, lines_of_writer, lines_of_plan}
+use Rattle.spec_whole_plans.specs.WellFormed.{class_of_kind, inputs_at, list_of, needed_class, all_commands, HasList, HasHeard, IsAttachable, IsWellFormed}
 use Rattle.spec_whole_plans.proofs.Numbers.{number_at, number_named}
 use Rattle.spec_whole_plans.proofs.Said.{all_weaker}
 use Rattle.spec_whole_plans.proofs.SoundLists.{given_more}
@@ -127,10 +126,11 @@ module _ (p : Plan) (h : IsWellFormed p) (n : ℕ) where
       let rest_passes : Passes all_lines (map (list_head (names p h n)) (before ++ d ∷ [])) [] later = lists_pass (before ++ d ∷ []) ds rest (append_assoc before (d ∷ []) ds ∙ split) k in
       let with_rows : Passes all_lines (map (list_head (names p h n)) (before ++ d ∷ [])) [] ((more ++ flat_map (lines_of_list (names p h n)) ds) ++ rest) =
       subst (Passes all_lines (map (list_head (names p h n)) (before ++ d ∷ [])) []) (sym (append_assoc more (flat_map (lines_of_list (names p h n)) ds) rest))
-      (rows_pass (map (list_head (names p h n)) (before ++ d ∷ [])) [] d.name d.kind later fed rest_passes) in
-      (list_said hs [] d.name d.kind ∙ both_none (list_fault_behind all_lines hs (list_head (names p h n) d)) None (list_is_fine p h n before d ds split) refl,
-      subst (λ gs. Passes all_lines gs (followed [] (hearer_of (list_line (names p h n) (unplaced_name d.name) d.kind))) ((more ++ flat_map (lines_of_list (names p h n)) ds) ++ rest)) next
-      (subst (λ qs. Passes all_lines (map (list_head (names p h n)) (before ++ d ∷ [])) qs ((more ++ flat_map (lines_of_list (names p h n)) ds) ++ rest)) no_more with_rows))
+      (rows_pass (map (list_head (names p h n)) (before ++ d ∷ [])) [] d.name d.kind later fed rest_passes) in (
+        list_said hs [] d.name d.kind ∙ both_none (list_fault_behind all_lines hs (list_head (names p h n) d)) None (list_is_fine p h n before d ds split) refl,
+        subst (λ gs. Passes all_lines gs (followed [] (hearer_of (list_line (names p h n) (unplaced_name d.name) d.kind))) ((more ++ flat_map (lines_of_list (names p h n)) ds) ++ rest)) next
+            (subst (λ qs. Passes all_lines (map (list_head (names p h n)) (before ++ d ∷ [])) qs ((more ++ flat_map (lines_of_list (names p h n)) ds) ++ rest)) no_more with_rows),
+      )
 
   -- listeners
   after_is_fine : (k : ℕ) → k < length p.listeners → after_fault all_lines (named listeners k) ≡ None
@@ -164,10 +164,11 @@ module _ (p : Plan) (h : IsWellFormed p) (n : ℕ) where
       subst (λ ds. Passes all_lines hs (map (listener_head (names p h n) listeners) ds) rest) (sym split ∙ append-nil before) k
   listeners_pass hs before (d ∷ ds) rest split a k =
       let rs : List Hearer = map (listener_head (names p h n) listeners) before in
-      let r : Hearer = listener_head (names p h n) listeners d in
-      (both_none (listener_fault_behind all_lines rs r) None (listener_is_fine before d ds split a.0) refl,
-      subst (λ qs. Passes all_lines hs qs (map (listener_line (names p h n) listeners) ds ++ rest)) (map-append (listener_head (names p h n) listeners) before (d ∷ []))
-      (listeners_pass hs (before ++ d ∷ []) ds rest (append_assoc before (d ∷ []) ds ∙ split) a.1 k))
+      let r : Hearer = listener_head (names p h n) listeners d in (
+        both_none (listener_fault_behind all_lines rs r) None (listener_is_fine before d ds split a.0) refl,
+        subst (λ qs. Passes all_lines hs qs (map (listener_line (names p h n) listeners) ds ++ rest)) (map-append (listener_head (names p h n) listeners) before (d ∷ []))
+            (listeners_pass hs (before ++ d ∷ []) ds rest (append_assoc before (d ∷ []) ds ∙ split) a.1 k),
+      )
 
   -- commands
   member_is_fine : (list member : ℕ) → list < length p.lists → member < length p.lists → Contains (inputs_at p list) member
@@ -205,30 +206,33 @@ module _ (p : Plan) (h : IsWellFormed p) (n : ℕ) where
   commands_pass : (hs : List Head) (rs : List Hearer) (cs : List Command) (rest : List Line) → AllByRecursion IsFine cs → Passes all_lines hs rs rest → Passes all_lines hs rs (map (command_line (names p h n)) cs ++ rest)
   unfolding Passes
   commands_pass hs rs [] rest a k = k
-  commands_pass hs rs (c ∷ cs) rest a k =
-      (a.0 hs rs,
-      subst (λ o. Passes all_lines (followed hs o) (followed rs (hearer_of (command_line (names p h n) c))) (map (command_line (names p h n)) cs ++ rest)) (sym (no_head c))
-      (subst (λ o. Passes all_lines hs (followed rs o) (map (command_line (names p h n)) cs ++ rest)) (sym (no_hearer c)) (commands_pass hs rs cs rest a.1 k)))
+  commands_pass hs rs (c ∷ cs) rest a k = (
+    a.0 hs rs,
+    subst (λ o. Passes all_lines (followed hs o) (followed rs (hearer_of (command_line (names p h n) c))) (map (command_line (names p h n)) cs ++ rest)) (sym (no_head c))
+        (subst (λ o. Passes all_lines hs (followed rs o) (map (command_line (names p h n)) cs ++ rest)) (sym (no_hearer c)) (commands_pass hs rs cs rest a.1 k)),
+  )
 
   sections_pass : (hs : List Head) (rs : List Hearer) (sections : List (List Command)) (rest : List Line) → AllByRecursion (AllByRecursion IsFine) sections → Passes all_lines hs rs rest
       → Passes all_lines hs rs (flat_map (lines_of_section (names p h n)) sections ++ rest)
   unfolding Passes
   sections_pass hs rs [] rest a k = k
   sections_pass hs rs (s ∷ ss) rest a k =
-      let later : List Line = flat_map (lines_of_section (names p h n)) ss ++ rest in
-      (refl,
-      subst (Passes all_lines hs rs) (sym (append_assoc (map (command_line (names p h n)) s) (flat_map (lines_of_section (names p h n)) ss) rest))
-      (commands_pass hs rs s later a.0 (sections_pass hs rs ss rest a.1 k)))
+      let later : List Line = flat_map (lines_of_section (names p h n)) ss ++ rest in (
+        refl,
+        subst (Passes all_lines hs rs) (sym (append_assoc (map (command_line (names p h n)) s) (flat_map (lines_of_section (names p h n)) ss) rest))
+            (commands_pass hs rs s later a.0 (sections_pass hs rs ss rest a.1 k)),
+      )
 
   writers_pass : (hs : List Head) (rs : List Hearer) (writers : List (List (List Command))) (rest : List Line) → AllByRecursion (AllByRecursion (AllByRecursion IsFine)) writers → Passes all_lines hs rs rest
       → Passes all_lines hs rs (flat_map (lines_of_writer (names p h n)) writers ++ rest)
   unfolding Passes
   writers_pass hs rs [] rest a k = k
   writers_pass hs rs (w ∷ ws) rest a k =
-      let later : List Line = flat_map (lines_of_writer (names p h n)) ws ++ rest in
-      (refl,
-      subst (Passes all_lines hs rs) (sym (append_assoc (flat_map (lines_of_section (names p h n)) w) (flat_map (lines_of_writer (names p h n)) ws) rest))
-      (sections_pass hs rs w later a.0 (writers_pass hs rs ws rest a.1 k)))
+      let later : List Line = flat_map (lines_of_writer (names p h n)) ws ++ rest in (
+        refl,
+        subst (Passes all_lines hs rs) (sym (append_assoc (flat_map (lines_of_section (names p h n)) w) (flat_map (lines_of_writer (names p h n)) ws) rest))
+            (sections_pass hs rs w later a.0 (writers_pass hs rs ws rest a.1 k)),
+      )
 
   all_pass : Passes all_lines [] [] (lines_of_plan p)
   unfolding Passes

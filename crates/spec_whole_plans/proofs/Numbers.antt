@@ -1,5 +1,5 @@
 -- Numbers of names.
-use Rattle.std.proofs.Common.{◌≡◌, ℕ, zero, suc, ◌+◌, ◌<◌, Bool, true, false, cond, List, [], ◌∷◌, ◌++◌, length, Option, Some, None, refl, sym, ap, subst, ◌∙◌, arith, ltb, not, true≢false}
+use Rattle.std.proofs.Common.{◌≡◌, ℕ, zero, suc, ◌+◌, ◌<◌, Bool, true, false, cond, List, [], ◌∷◌, length, Option, Some, None, refl, sym, ap, subst, ◌∙◌, arith, ltb, not, true≢false}
 use Rattle.std.specs.Prelude.{option_map, unwrap_or, position, bytes_eq, slice_get, ⊤}
 use Rattle.std.specs.Option.{is_some}
 use Rattle.std.specs.List.{prefix_len, IsDistinct, AllByRecursion}
@@ -7,9 +7,7 @@ use Rattle.std.proofs.lemmas.Slice.Eq.{bytes_eq-Decides}
 use Rattle.std.proofs.lemmas.Bool.{lt-ltb}
 use Rattle.std.proofs.lemmas.Option.{none-some, same_Some}
 use Rattle.std.proofs.lemmas.Bool.Decides.{nat_tests}
-use Rattle.gl_lines.specs.declared.named.Named.{Named}
 use Rattle.spec_plans.specs.Names.{number_of}
-use Rattle.spec_plans.specs.Making.{number}
 use Rattle.spec_whole_plans.specs.Canonical.{named}
 
 ltb-suc : (k n : ℕ) → ltb (suc k) (suc n) ≡ ltb k n

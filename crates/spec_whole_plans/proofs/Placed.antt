@@ -1,8 +1,7 @@
 -- No line of a plan of few lists, listeners and writers is misplaced.
-use Rattle.std.proofs.Common.{◌≡◌, ◌∙◌, ℕ, zero, suc, ◌+◌, ◌≤◌, ◌==◌, ◌&&◌, ◌||◌, Bool, true, false, cond, not, List, [], ◌∷◌, ◌++◌, length, map, fold, Option, Some, None, refl, sym, ap, subst, arith, append_assoc, append-nil, ne_eqb}
+use Rattle.std.proofs.Common.{◌≡◌, ◌∙◌, ℕ, suc, ◌+◌, ◌≤◌, ◌==◌, ◌&&◌, ◌||◌, Bool, true, false, cond, not, List, [], ◌∷◌, ◌++◌, length, map, Option, Some, None, refl, sym, ap, subst, arith, append_assoc, append-nil, ne_eqb}
 use Rattle.std.specs.Prelude.{if◌then◌else◌, option_map, flat_map, count_by}
 use Rattle.std.specs.Option.{option_or}
-use Rattle.std.specs.List.{list_any}
 use Rattle.std.proofs.lemmas.List.Sums.{fold-append, sum_by-append}
 use Rattle.gl_lines.specs.declared.named.Named.{Named}
 use Rattle.gl_lines.specs.declared.line.Line.{Line}
@@ -20,7 +19,7 @@ use Rattle.gl_lines.specs.declared.fault.Misplaced.{Misplaced}
 use Rattle.spec_plans.specs.Along.{first_behind}
 use Rattle.spec_plans.specs.Lines.{is_limit, is_end, is_writer, is_section, is_list, is_listener, is_command, is_declaration}
 use Rattle.spec_plans.specs.Numbered.{numbered}
-use Rattle.spec_plans.specs.Place.{some_line, count_lines, is_open_behind, has_section, place_fault, misplacing, first_misplaced}
+use Rattle.spec_plans.specs.Place.{some_line, count_lines, is_open_behind, has_section, misplacing, first_misplaced}
 use Rattle.spec_plans.specs.Plan.{Plan}
 use Rattle.spec_whole_plans.specs.Canonical.{unplaced_name, names_of_lists, names_of_listeners, list_line, row_lines, lines_of_list, listener_line, command_line, lines_of_section, lines_of_writer, lines_of_plan}
 use Rattle.spec_whole_plans.specs.WellFormed.{IsWellFormed}
@@ -152,11 +151,12 @@ module _ (names : List (List ℕ)) where
       let name : Named = unplaced_name d.name in
       let shift : a + suc (length ds) ≡ suc a + length ds = omega arith in
       let later : Passes (declaring (suc a) 0) (flat_map (lines_of_list names) ds ++ rest) =
-      lists_pass (suc a) ds rest (omega (arith, l)) (subst (λ n. Passes (declaring n 0) rest) shift h) in
-      (list_placed a name d.kind (below a 256 (omega (arith, l))),
-      subst (λ s. Passes s ((row_lines name d.kind ++ flat_map (lines_of_list names) ds) ++ rest)) (sym (list_behind a name d.kind))
-      (subst (Passes (declaring (suc a) 0)) (sym (append_assoc (row_lines name d.kind) (flat_map (lines_of_list names) ds) rest))
-      (rows_pass (suc a) name d.kind (flat_map (lines_of_list names) ds ++ rest) later)))
+      lists_pass (suc a) ds rest (omega (arith, l)) (subst (λ n. Passes (declaring n 0) rest) shift h) in (
+        list_placed a name d.kind (below a 256 (omega (arith, l))),
+        subst (λ s. Passes s ((row_lines name d.kind ++ flat_map (lines_of_list names) ds) ++ rest)) (sym (list_behind a name d.kind))
+            (subst (Passes (declaring (suc a) 0)) (sym (append_assoc (row_lines name d.kind) (flat_map (lines_of_list names) ds) rest))
+            (rows_pass (suc a) name d.kind (flat_map (lines_of_list names) ds ++ rest) later)),
+      )
 
   listeners_pass : (listeners : List (List ℕ)) (a b : ℕ) (ds : List ListenerDecl) (rest : List Line) → b + length ds ≤ 256 → Passes (declaring a (b + length ds)) rest
       → Passes (declaring a b) (map (listener_line names listeners) ds ++ rest)
@@ -165,9 +165,10 @@ module _ (names : List (List ℕ)) where
       let none : b + 0 ≡ b = omega arith in
       subst (λ n. Passes (declaring a n) rest) none h
   listeners_pass listeners a b (d ∷ ds) rest l h =
-      let shift : b + suc (length ds) ≡ suc b + length ds = omega arith in
-      (ap (λ t. if false || t || false then Some Many else None) (below b 256 (omega (arith, l))),
-      listeners_pass listeners a (suc b) ds rest (omega (arith, l)) (subst (λ n. Passes (declaring a n) rest) shift h))
+      let shift : b + suc (length ds) ≡ suc b + length ds = omega arith in (
+        ap (λ t. if false || t || false then Some Many else None) (below b 256 (omega (arith, l))),
+        listeners_pass listeners a (suc b) ds rest (omega (arith, l)) (subst (λ n. Passes (declaring a n) rest) shift h),
+      )
 
   module _ (a b : ℕ) where
     command_placed : (c : ℕ) (command : Command) → fault_in (writing true true a b c) (command_line names command) ≡ None
@@ -189,10 +190,11 @@ module _ (names : List (List ℕ)) where
     unfolding Passes
     sections_pass open_ c [] rest h = h open_
     sections_pass open_ c (s ∷ ss) rest h =
-        let later : List Line = flat_map (lines_of_section names) ss ++ rest in
-        (refl,
-        subst (Passes (writing true true a b c)) (sym (append_assoc (map (command_line names) s) (flat_map (lines_of_section names) ss) rest))
-        (commands_pass c s later (sections_pass true c ss rest h)))
+        let later : List Line = flat_map (lines_of_section names) ss ++ rest in (
+          refl,
+          subst (Passes (writing true true a b c)) (sym (append_assoc (map (command_line names) s) (flat_map (lines_of_section names) ss) rest))
+              (commands_pass c s later (sections_pass true c ss rest h)),
+        )
 
     writers_pass : (writer open_ : Bool) (c : ℕ) (writers : List (List (List Command))) (rest : List Line) → c + length writers ≤ 64
         → ((w s : Bool) → Passes (writing w s a b (c + length writers)) rest)
@@ -203,17 +205,17 @@ module _ (names : List (List ℕ)) where
         subst (λ n. Passes (writing writer open_ a b n) rest) none (h writer open_)
     writers_pass writer open_ c (w ∷ ws) rest l h =
         let later : List Line = flat_map (lines_of_writer names) ws ++ rest in
-        let shift : c + suc (length ws) ≡ suc c + length ws = omega arith in
-        (ap (λ t. if false || false || t then Some Many else None) (below c 64 (omega (arith, l))),
-        subst (Passes (writing true false a b (suc c))) (sym (append_assoc (flat_map (lines_of_section names) w) (flat_map (lines_of_writer names) ws) rest))
-        (sections_pass false (suc c) w later
-        (λ s. writers_pass true s (suc c) ws rest (omega (arith, l)) (λ v t. subst (λ n. Passes (writing v t a b n) rest) shift (h v t)))))
+        let shift : c + suc (length ws) ≡ suc c + length ws = omega arith in (
+          ap (λ t. if false || false || t then Some Many else None) (below c 64 (omega (arith, l))),
+          subst (Passes (writing true false a b (suc c))) (sym (append_assoc (flat_map (lines_of_section names) w) (flat_map (lines_of_writer names) ws) rest))
+              (sections_pass false (suc c) w later
+              (λ s. writers_pass true s (suc c) ws rest (omega (arith, l)) (λ v t. subst (λ n. Passes (writing v t a b n) rest) shift (h v t)))),
+        )
 
 pub all_placed : (p : Plan) → IsWellFormed p → (n : ℕ) → first_misplaced (numbered n (lines_of_plan p)) ≡ None
 unfolding Passes
 all_placed p h n = placed n [] (lines_of_plan p) (refl, passing)
   where
-
     passing : Passes (declaring 0 0) (flat_map (lines_of_list (names_of_lists p)) p.lists ++ map (listener_line (names_of_lists p) (names_of_listeners p)) p.listeners ++ flat_map (lines_of_writer (names_of_lists p)) p.writers)
     passing =
         let declared : List Line = flat_map (lines_of_list (names_of_lists p)) p.lists in

@@ -1,5 +1,5 @@
 -- Items of which nothing is said.
-use Rattle.std.proofs.Common.{◌≡◌, ◌∙◌, ℕ, Bool, true, false, cond, ◌||◌, ◌&&◌, List, [], ◌∷◌, ◌++◌, Option, Some, None, refl, sym, ap, subst, append-nil, append_assoc, true≢false}
+use Rattle.std.proofs.Common.{◌≡◌, ◌∙◌, Bool, true, false, ◌||◌, List, [], ◌∷◌, ◌++◌, Option, Some, None, refl, sym, ap, subst, append-nil, append_assoc, true≢false}
 use Rattle.std.specs.Prelude.{option_map, option_and_then, map, filter_map}
 use Rattle.std.specs.Option.{option_or}
 use Rattle.std.specs.List.{cons_option, AllByRecursion, IsDistinct}
@@ -33,9 +33,10 @@ module _ {A B : Type 0} (say : List A → A → Option B) where
   -- each item of which nothing is said is such
   pub all_said : (P : A → Type 0) → ((before : List A) (x : A) → say before x ≡ None → P x) → (before xs : List A) → first_behind say before xs ≡ None → AllByRecursion P xs
   all_said P holds before [] e = tt
-  all_said P holds before (x ∷ xs) e =
-      (holds before x (first_none (say before x) (first_behind say (before ++ x ∷ []) xs) e),
-      all_said P holds (before ++ x ∷ []) xs (second_none (say before x) (first_behind say (before ++ x ∷ []) xs) e))
+  all_said P holds before (x ∷ xs) e = (
+    holds before x (first_none (say before x) (first_behind say (before ++ x ∷ []) xs) e),
+    all_said P holds (before ++ x ∷ []) xs (second_none (say before x) (first_behind say (before ++ x ∷ []) xs) e),
+  )
 
   -- what holds of no items, and of items with one more where nothing is said of it, holds of all
   pub one_by_one : (P : List A → Type 0) → ((before : List A) (x : A) → say before x ≡ None → P before → P (before ++ x ∷ []))

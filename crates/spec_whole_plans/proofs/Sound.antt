@@ -1,5 +1,5 @@
 -- Sound lines make a well formed plan.
-use Rattle.std.proofs.Common.{◌≡◌, List, Option, None}
+use Rattle.std.proofs.Common.{◌≡◌, List, None}
 use Rattle.std.specs.Prelude.{option_map}
 use Rattle.gl_lines.specs.declared.line.NumberedLine.{NumberedLine}
 use Rattle.gl_lines.specs.declared.fault.Misplaced.{Misplaced}

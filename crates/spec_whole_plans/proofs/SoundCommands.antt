@@ -1,7 +1,6 @@
 -- Commands of the plan of sound lines.
-use Rattle.std.proofs.Common.{◌≡◌, ◌∙◌, ℕ, ◌<◌, ◌==◌, Bool, true, false, cond, List, [], ◌∷◌, ◌++◌, length, map, fold, Option, Some, None, refl, sym, ap, subst}
-use Rattle.std.specs.Prelude.{if◌then◌else◌, option_map, flat_map, unwrap_or, slice_get, All, Contains, IfSome}
-use Rattle.std.specs.Option.{option_or}
+use Rattle.std.proofs.Common.{◌≡◌, ℕ, Bool, true, false, List, [], ◌∷◌, ◌++◌, fold, Option, Some, None, refl, sym, subst}
+use Rattle.std.specs.Prelude.{if◌then◌else◌, option_map, flat_map, All, Contains, IfSome}
 use Rattle.std.specs.List.{AllByRecursion}
 use Rattle.std.proofs.lemmas.Option.{same_Some, none-some}
 use Rattle.std.proofs.lemmas.List.Elements.{All-from_recursion}

@@ -13,14 +13,13 @@ use Rattle.gl_lines.specs.declared.line.Line.TheVariants.{Writer}
 use Rattle.gl_lines.specs.declared.line.NumberedLine.{NumberedLine}
 use Rattle.gl_lines.specs.declared.fault.PlanKind.{PlanKind}
 use Rattle.gl_lines.specs.declared.fault.PlanKind.TheVariants.{Place, Many}
-use Rattle.gl_lines.specs.declared.plan.Command.{Command}
 use Rattle.spec_plans.specs.declared.part.Part.{Part}
 use Rattle.spec_plans.specs.declared.part.Part.TheVariants as parts
 use Rattle.spec_plans.specs.Lines.{head_of, hearer_of, is_list, is_listener, is_writer}
-use Rattle.spec_plans.specs.Names.{heads, hearers, list_names, listener_names}
+use Rattle.spec_plans.specs.Names.{list_names, listener_names}
 use Rattle.spec_plans.specs.Place.{count_lines, is_out_of_place, is_too_many, place_fault, misplacing, first_misplaced}
 use Rattle.spec_plans.specs.Plan.{Plan}
-use Rattle.spec_plans.specs.Making.{rows_for, part_of, parts_of, with_last, with_part, empty_plan, plan_of}
+use Rattle.spec_plans.specs.Making.{rows_for, part_of, with_last, with_part, empty_plan, plan_of}
 use Rattle.spec_whole_plans.proofs.Said.{unmapped, left_false, right_false, one_by_one}
 use Rattle.spec_whole_plans.proofs.Made.{part, as_many_lists, as_many_listeners}
 

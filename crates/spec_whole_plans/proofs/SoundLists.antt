@@ -1,5 +1,5 @@
 -- Names, inputs and listeners of the plan of sound lines.
-use Rattle.std.proofs.Common.{◌≡◌, ◌∙◌, ℕ, ◌<◌, ◌==◌, Bool, true, false, cond, List, [], ◌∷◌, ◌++◌, length, map, Option, Some, None, refl, sym, ap, subst, append-nil, true≢false}
+use Rattle.std.proofs.Common.{◌≡◌, ◌∙◌, ℕ, ◌<◌, Bool, false, List, [], ◌∷◌, ◌++◌, length, map, Option, Some, None, refl, sym, ap, subst, append-nil}
 use Rattle.std.specs.Prelude.{if◌then◌else◌, option_map, option_to_list, filter_map, slice_get, unwrap_or, bytes_eq, All}
 use Rattle.std.specs.Option.{is_some}
 use Rattle.std.specs.List.{cons_option, AllByRecursion, IsDistinct}
@@ -8,22 +8,21 @@ use Rattle.std.proofs.lemmas.List.{length-map}
 use Rattle.std.proofs.lemmas.List.Elements.{filter_map-append, All-from_recursion}
 use Rattle.gl_lines.specs.declared.named.Named.{Named}
 use Rattle.gl_lines.specs.declared.line.Line.{Line}
-use Rattle.gl_lines.specs.declared.line.Line.TheVariants.{Writer, Composite, Listen}
+use Rattle.gl_lines.specs.declared.line.Line.TheVariants.{Writer, Listen}
 use Rattle.gl_lines.specs.declared.line.NumberedLine.{NumberedLine}
-use Rattle.gl_lines.specs.declared.plan.ListDecl.{ListDecl}
 use Rattle.gl_lines.specs.declared.plan.ListenerDecl.{ListenerDecl}
 use Rattle.spec_plans.specs.declared.class.ListClass.{ListClass}
 use Rattle.spec_plans.specs.Lines.{Head, Hearer, head_of, hearer_of}
 use Rattle.spec_plans.specs.Names.{heads, hearers, list_names, listener_names, number_of}
 use Rattle.gl_lines.specs.declared.fault.PlanKind.TheVariants.{Unknown}
 use Rattle.spec_plans.specs.NameFaults.{wrong, input_need, after_fault, naming, name_fault, first_misnamed}
-use Rattle.spec_plans.specs.Plan.{Plan, inputs_of}
+use Rattle.spec_plans.specs.Plan.{inputs_of}
 use Rattle.spec_plans.specs.Making.{number, numbers, rows_for, part_of, plan_of}
 use Rattle.spec_whole_plans.specs.Canonical.{names_of_lists, names_of_listeners}
 use Rattle.spec_whole_plans.specs.WellFormed.{class_of_kind, HasList, HasInputs, HasHeard}
 use Rattle.spec_whole_plans.proofs.Numbers.{none_such, name_at_number}
 use Rattle.spec_whole_plans.proofs.Said.{all_said, one_by_one, all_given, all_map, all_unmap, all_append, all_weaker, distinct_push}
-use Rattle.spec_whole_plans.proofs.Made.{Needs, list_needs, head_needs, names_are, hearers_are, needs_are, listeners_made, part, listener_part, as_many_lists, as_many_listeners}
+use Rattle.spec_whole_plans.proofs.Made.{Needs, list_needs, head_needs, names_are, hearers_are, needs_are, listeners_made, part, listener_part, as_many_listeners}
 use Rattle.spec_whole_plans.proofs.Used.{IsUsed, line_is_fine, list_is_fine, listener_is_fine}
 
 pub none_distinct : {X : Type 0} (same : X → X → Bool) → IsDistinct same []

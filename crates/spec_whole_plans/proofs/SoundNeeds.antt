@@ -1,14 +1,13 @@
 -- In sound lines each name stands for something, so that a list of their plan depends on what its line names.
-use Rattle.std.proofs.Common.{◌≡◌, ◌∙◌, ℕ, zero, suc, List, [], ◌∷◌, ◌++◌, map, Option, Some, None, refl, sym, ap}
-use Rattle.std.specs.Prelude.{option_map, filter_map, slice_get, unwrap_or}
+use Rattle.std.proofs.Common.{◌≡◌, ◌∙◌, ℕ, zero, suc, List, [], ◌∷◌, ◌++◌, None, refl, sym, ap}
+use Rattle.std.specs.Prelude.{option_map, slice_get, unwrap_or}
 use Rattle.std.specs.List.{cons_option, AllByRecursion}
 use Rattle.gl_lines.specs.declared.named.Named.{Named}
 use Rattle.gl_lines.specs.declared.line.NumberedLine.{NumberedLine}
-use Rattle.spec_plans.specs.declared.class.ListClass.{ListClass}
 use Rattle.spec_plans.specs.Lines.{Head}
-use Rattle.spec_plans.specs.Names.{heads, list_names, number_of, numbers_in, needed_by, needed}
+use Rattle.spec_plans.specs.Names.{heads, list_names, numbers_in, needed_by, needed}
 use Rattle.spec_plans.specs.NameFaults.{input_need, first_misnamed}
-use Rattle.spec_plans.specs.Making.{number, numbers, plan_of}
+use Rattle.spec_plans.specs.Making.{numbers, plan_of}
 use Rattle.spec_whole_plans.specs.WellFormed.{inputs_at}
 use Rattle.spec_whole_plans.proofs.Said.{all_weaker}
 use Rattle.spec_whole_plans.proofs.Made.{inputs_is}

@@ -1,6 +1,6 @@
 -- In the plan of sound lines no composite and no collection depends on a proxy.
 use Rattle.std.proofs.Common.{◌≡◌, ◌∙◌, ℕ, zero, suc, ◌+◌, ◌<◌, ◌≤◌, ◌&&◌, ◌||◌, Bool, true, false, List, [], ◌∷◌, ◌++◌, length, map, Option, Some, None, refl, sym, ap, subst, arith, true≢false, length-append, append-nil, inl, inr}
-use Rattle.std.specs.Prelude.{if◌then◌else◌, option_map, option_to_list, filter_map, slice_get, unwrap_or, Contains, All}
+use Rattle.std.specs.Prelude.{if◌then◌else◌, option_map, option_to_list, slice_get, unwrap_or, Contains, All}
 use Rattle.std.specs.List.{list_any, cons_option}
 use Rattle.std.proofs.lemmas.Option.{same_Some, none-some, slice_get-map}
 use Rattle.std.proofs.lemmas.List.Elements.{All-contains, recursion_from_All}
@@ -11,7 +11,7 @@ use Rattle.spec_order.specs.Edges.{DependsOn}
 use Rattle.spec_order.specs.Cycle.{IsWalk}
 use Rattle.spec_order.proofs.Members.{Contains-nil, Contains-cons_cases}
 use Rattle.spec_plans.specs.declared.class.ListClass.{ListClass}
-use Rattle.spec_plans.specs.declared.class.ListClass.TheVariants.{Edited, Filtered, Ordered, Bounded, Mapped, Collected, Composed, Undone, Frozen, Pumped}
+use Rattle.spec_plans.specs.declared.class.ListClass.TheVariants.{Pumped}
 use Rattle.spec_plans.specs.declared.fault.NameFault.{NameFault}
 use Rattle.spec_plans.specs.Along.{first_behind}
 use Rattle.spec_plans.specs.Lines.{Head, head_of}
@@ -26,7 +26,7 @@ use Rattle.spec_whole_plans.proofs.Made.{class_is, as_many_lists}
 use Rattle.spec_whole_plans.proofs.Used.{has_class, line_is_fine, list_is_fine}
 use Rattle.spec_whole_plans.proofs.SoundLists.{given_more, has_inputs}
 use Rattle.spec_whole_plans.proofs.SoundNeeds.{needed_is}
-use Rattle.spec_whole_plans.proofs.Walks.{Way, needs_at, edge_needed, way_of, way_is_short}
+use Rattle.spec_whole_plans.proofs.Walks.{Way, edge_needed, way_of, way_is_short}
 
 abbrev over_proxy : Option NameFault
 over_proxy = Some (record { column = 1; kind = OverProxy })

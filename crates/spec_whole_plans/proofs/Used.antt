@@ -1,24 +1,23 @@
 -- What the names of a line stand for, where nothing is wrong with them.
-use Rattle.std.proofs.Common.{◌≡◌, ◌∙◌, ℕ, zero, suc, ◌<◌, ◌==◌, ◌||◌, Bool, true, false, cond, List, [], ◌∷◌, ◌++◌, length, map, Option, Some, None, refl, sym, ap, subst, append-nil, true≢false, arith}
+use Rattle.std.proofs.Common.{◌≡◌, ◌∙◌, ℕ, zero, suc, ◌<◌, ◌==◌, Bool, true, false, cond, List, [], ◌∷◌, length, map, Option, Some, None, refl, sym, ap, subst}
 use Rattle.std.specs.Prelude.{if◌then◌else◌, option_map, option_and_then, slice_get, unwrap_or}
 use Rattle.std.specs.Option.{is_some, option_or}
-use Rattle.std.specs.List.{AllByRecursion, IsDistinct}
-use Rattle.std.proofs.lemmas.Option.{none-some, same_Some, slice_get-map, slice_get_within}
+use Rattle.std.specs.List.{AllByRecursion}
+use Rattle.std.proofs.lemmas.Option.{none-some, slice_get-map, slice_get_within}
 use Rattle.std.proofs.lemmas.Bool.{eqb-true}
 use Rattle.std.proofs.lemmas.List.{length-map}
 use Rattle.gl_lines.specs.declared.named.Named.{Named}
 use Rattle.gl_lines.specs.declared.line.Line.{Line}
-use Rattle.gl_lines.specs.declared.line.Line.TheVariants.{Writer}
 use Rattle.gl_lines.specs.declared.line.NumberedLine.{NumberedLine}
 use Rattle.gl_lines.specs.declared.plan.ListDecl.{ListDecl}
-use Rattle.gl_lines.specs.declared.fault.PlanKind.TheVariants.{Kind, Unknown, Taken, Second}
+use Rattle.gl_lines.specs.declared.fault.PlanKind.TheVariants.{Kind, Taken}
 use Rattle.spec_plans.specs.declared.fault.NameFault.{NameFault}
 use Rattle.spec_plans.specs.declared.class.ListClass.{ListClass}
 use Rattle.spec_plans.specs.declared.class.ListClass.TheVariants.{Edited, Filtered, Ordered, Bounded, Mapped, Collected, Composed, Undone, Frozen, Pumped}
 use Rattle.spec_plans.specs.Along.{first_some}
-use Rattle.spec_plans.specs.Lines.{Head, Hearer, head_of, hearer_of, fed_by, commanded_by, attached_by}
-use Rattle.spec_plans.specs.Names.{heads, hearers, list_names, listener_names, number_of, class_of}
-use Rattle.spec_plans.specs.NameFaults.{wrong, first_fault, class_number, meets, taken_fault, use_fault_of, use_fault, after_fault, input_need, is_undone, second_fault, proxy_fault, list_fault, listener_fault, command_fault, attach_fault, name_fault, naming}
+use Rattle.spec_plans.specs.Lines.{Head, Hearer, head_of, hearer_of, fed_by, commanded_by}
+use Rattle.spec_plans.specs.Names.{heads, list_names, listener_names, number_of}
+use Rattle.spec_plans.specs.NameFaults.{wrong, first_fault, class_number, meets, taken_fault, use_fault_of, use_fault, after_fault, input_need, is_undone, second_fault, proxy_fault, list_fault, listener_fault, command_fault, name_fault, naming}
 use Rattle.spec_plans.specs.Plan.{Plan}
 use Rattle.spec_plans.specs.Making.{number, plan_of}
 use Rattle.spec_whole_plans.specs.WellFormed.{class_of_kind, class_at, HasList}

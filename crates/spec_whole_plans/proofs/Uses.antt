@@ -1,7 +1,6 @@
 -- What the names in the lines of a well formed plan stand for.
-use Rattle.std.proofs.Common.{◌≡◌, ◌∙◌, ℕ, zero, suc, ◌<◌, ◌==◌, ◌||◌, Bool, true, false, cond, List, [], ◌∷◌, ◌++◌, length, map, Option, Some, None, refl, sym, ap, subst, arith, eq-eqb, inl, inr, ◌⊎◌, true≢false}
-use Rattle.std.specs.Prelude.{if◌then◌else◌, option_map, option_and_then, slice_get, unwrap_or, Contains, All}
-use Rattle.std.specs.Option.{option_or}
+use Rattle.std.proofs.Common.{◌≡◌, ◌∙◌, ℕ, zero, suc, ◌<◌, ◌||◌, Bool, true, false, List, [], ◌∷◌, ◌++◌, length, map, Option, Some, None, refl, sym, ap, subst, arith, eq-eqb, inl, inr, ◌⊎◌, true≢false}
+use Rattle.std.specs.Prelude.{if◌then◌else◌, option_map, option_and_then, slice_get, unwrap_or, Contains}
 use Rattle.std.specs.List.{list_any, AllByRecursion}
 use Rattle.std.proofs.lemmas.Option.{same_Some, none-some, slice_get-map}
 use Rattle.std.proofs.lemmas.List.{length-map, map-append}
@@ -11,27 +10,26 @@ use Rattle.gl_lines.specs.declared.line.NumberedLine.{NumberedLine}
 use Rattle.gl_lines.specs.declared.plan.ListDecl.{ListDecl}
 use Rattle.gl_lines.specs.declared.plan.ListKind.{ListKind}
 use Rattle.gl_lines.specs.declared.plan.ListKind.TheVariants as kinds
-use Rattle.gl_lines.specs.declared.fault.PlanKind.TheVariants.{Kind, Unknown}
+use Rattle.gl_lines.specs.declared.fault.PlanKind.TheVariants.{Kind}
 use Rattle.spec_order.specs.Edges.{DependsOn}
 use Rattle.spec_order.specs.Cycle.{IsWalk}
-use Rattle.spec_order.proofs.Members.{Contains-nil, Contains-here, Contains-later}
+use Rattle.spec_order.proofs.Members.{Contains-here, Contains-later}
 use Rattle.spec_plans.specs.declared.class.ListClass.{ListClass}
-use Rattle.spec_plans.specs.declared.class.ListClass.TheVariants.{Edited, Filtered, Ordered, Bounded, Mapped, Collected, Composed, Undone, Frozen, Pumped}
+use Rattle.spec_plans.specs.declared.class.ListClass.TheVariants.{Edited, Pumped}
 use Rattle.spec_plans.specs.Lines.{Head}
 use Rattle.spec_plans.specs.Names.{heads, list_names, number_of, class_of, needed, is_pumped, is_proxy, leads_to_proxy, is_over_proxy}
-use Rattle.spec_plans.specs.NameFaults.{wrong, class_number, meets, use_fault_of, use_fault, input_need, shuns_proxies}
+use Rattle.spec_plans.specs.NameFaults.{wrong, class_number, use_fault_of, use_fault, input_need, shuns_proxies}
 use Rattle.spec_plans.specs.Numbered.{numbered}
 use Rattle.spec_plans.specs.Plan.{Plan, inputs_of, list_edges}
-use Rattle.spec_plans.specs.Making.{plan_of}
 use Rattle.spec_whole_plans.specs.Canonical.{named, names_of_lists, lines_of_plan}
 use Rattle.spec_whole_plans.specs.WellFormed.{class_of_kind, class_at, inputs_at, HasList, HasInputs, IsWellFormed}
 use Rattle.spec_whole_plans.proofs.Numbers.{all_at, number_named}
 use Rattle.spec_whole_plans.proofs.Said.{all_map, all_weaker}
 use Rattle.spec_whole_plans.proofs.Made.{class_is}
-use Rattle.spec_whole_plans.proofs.Used.{IsKnown, has_class}
+use Rattle.spec_whole_plans.proofs.Used.{IsKnown}
 use Rattle.spec_whole_plans.proofs.SoundNeeds.{AreKnown, needed_where_known}
 use Rattle.spec_whole_plans.proofs.SoundProxies.{have_list}
-use Rattle.spec_whole_plans.proofs.Walks.{needs_at, needed_edge}
+use Rattle.spec_whole_plans.proofs.Walks.{needed_edge}
 use Rattle.spec_whole_plans.proofs.Written.{list_head, members_of, may_of, heads_written, names_written}
 use Rattle.spec_whole_plans.proofs.Makes.{canonical_makes_from, all_by_place}
 

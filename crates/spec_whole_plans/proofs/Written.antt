@@ -1,5 +1,5 @@
 -- What the lines of a plan declare: its names, its heads and its rows.
-use Rattle.std.proofs.Common.{◌≡◌, ◌∙◌, ℕ, zero, suc, ◌+◌, ◌<◌, ◌==◌, Bool, true, false, cond, List, [], ◌∷◌, ◌++◌, length, map, Option, Some, None, refl, sym, ap, subst, arith, append-nil, ne_eqb, eq-eqb}
+use Rattle.std.proofs.Common.{◌≡◌, ◌∙◌, ℕ, zero, suc, ◌+◌, ◌<◌, Bool, true, false, cond, List, [], ◌∷◌, ◌++◌, map, Option, Some, None, refl, sym, ap, arith, append-nil, ne_eqb, eq-eqb}
 use Rattle.std.specs.Prelude.{option_map, filter_map, flat_map, slice_get, bytes_eq}
 use Rattle.std.specs.List.{cons_option, IsDistinct}
 use Rattle.std.proofs.lemmas.Option.{same_Some, none-some, slice_get-map}
@@ -8,7 +8,6 @@ use Rattle.spec_value.specs.Tree.{Tree}
 use Rattle.gl_lines.specs.declared.named.Named.{Named}
 use Rattle.gl_lines.specs.declared.line.Line.{Line}
 use Rattle.gl_lines.specs.declared.line.Line.TheVariants as line
-use Rattle.gl_lines.specs.declared.line.NumberedLine.{NumberedLine}
 use Rattle.gl_lines.specs.declared.plan.ListDecl.{ListDecl}
 use Rattle.gl_lines.specs.declared.plan.ListKind.{ListKind}
 use Rattle.gl_lines.specs.declared.plan.ListKind.TheVariants as kinds
@@ -21,7 +20,7 @@ use Rattle.spec_plans.specs.Numbered.{numbered}
 use Rattle.spec_plans.specs.Plan.{Plan, inputs_of}
 use Rattle.spec_plans.specs.Making.{is_number, row_for, rows_for}
 use Rattle.spec_whole_plans.specs.Canonical.{unplaced_name, named, names_of_lists, names_of_listeners, list_line, row_lines, lines_of_list, listener_line, command_line, lines_of_section, lines_of_writer, lines_of_plan}
-use Rattle.spec_whole_plans.specs.WellFormed.{class_of_kind, IsWellFormed}
+use Rattle.spec_whole_plans.specs.WellFormed.{class_of_kind}
 use Rattle.spec_whole_plans.proofs.Numbers.{number_at}
 use Rattle.spec_whole_plans.proofs.Made.{filter_map-map}
 
@@ -88,7 +87,6 @@ module _ {Y : Type 0} (f : Line → Option Y) (names : List (List ℕ)) (writer 
 
   nothing_of_writers : (writers : List (List (List Command))) → filter_map f (flat_map (lines_of_writer names) writers) ≡ []
   nothing_of_writers writers = flat_given f (lines_of_writer names) (λ sections. []) nothing_of_writer writers ∙ flat_none writers
-
 
 abbrev pub rows_of_kind : ListKind → List Tree
 rows_of_kind (kinds.Source rows) = rows

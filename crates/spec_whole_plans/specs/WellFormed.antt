@@ -1,5 +1,5 @@
 -- What every plan that lines make has.
-use Rattle.std.specs.Prelude.{◌≡◌, ℕ, ◌==◌, ◌<◌, ◌≤◌, true, List, [], flat_map, map, filter_map, length, bytes_eq, Option, Some, None, option_map, unwrap_or, slice_get, All, Contains, ⊤}
+use Rattle.std.specs.Prelude.{◌≡◌, ℕ, ◌==◌, ◌<◌, ◌≤◌, true, List, [], flat_map, filter_map, length, bytes_eq, Option, Some, None, option_map, unwrap_or, slice_get, All, Contains, ⊤}
 use Rattle.std.specs.List.{IsDistinct}
 use Rattle.gl_lines.specs.declared.plan.ListKind.{ListKind}
 use Rattle.gl_lines.specs.declared.plan.ListKind.TheVariants as kinds
