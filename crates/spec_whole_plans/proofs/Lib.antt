@@ -17,3 +17,4 @@ pub mod Placed
 pub mod Uses
 pub mod NamesFine
 pub mod NamesPassed
+pub mod Columns

@@ -62,7 +62,7 @@ pub filter_map-map : {X Y Z : Type 0} (g : Y → Option Z) (f : X → Y) (xs : L
 filter_map-map g f [] = refl
 filter_map-map g f (x ∷ xs) = ap (cons_option (g (f x))) (filter_map-map g f xs)
 
-map_first : {X Y : Type 0} (u : X → Y) (o : Option X) (xs : List X) → map u (cons_option o xs) ≡ cons_option (option_map u o) (map u xs)
+pub map_first : {X Y : Type 0} (u : X → Y) (o : Option X) (xs : List X) → map u (cons_option o xs) ≡ cons_option (option_map u o) (map u xs)
 map_first u None xs = refl
 map_first u (Some x) xs = refl
 

@@ -1,3 +1,4 @@
 pub mod Canonical
 pub mod WellFormed
 pub mod Rows
+pub mod Unplaced
