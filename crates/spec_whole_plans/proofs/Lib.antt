@@ -18,3 +18,4 @@ pub mod Uses
 pub mod NamesFine
 pub mod NamesPassed
 pub mod Columns
+pub mod FaultColumns

@@ -52,13 +52,13 @@ followed_is xs None = append-nil xs
 followed_is xs (Some x) = refl
 
 -- what is wrong with a line behind lines that declare these
-abbrev listener_fault_behind : List NumberedLine → List Hearer → Hearer → Option NameFault
+abbrev pub listener_fault_behind : List NumberedLine → List Hearer → Hearer → Option NameFault
 listener_fault_behind lines rs r =
     option_or (taken_fault (map (λ q. q.name.name) rs) r.name)
     (option_or (use_fault lines None r.list)
     (first_fault (after_fault lines) r.after))
 
-abbrev fault_behind : List NumberedLine → List Head → List Hearer → Line → Option NameFault
+abbrev pub fault_behind : List NumberedLine → List Head → List Hearer → Line → Option NameFault
 fault_behind lines hs rs l =
     option_or (option_and_then (list_fault_behind lines hs) (head_of l))
     (option_or (option_and_then (listener_fault_behind lines rs) (hearer_of l))

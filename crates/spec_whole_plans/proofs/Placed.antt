@@ -25,7 +25,7 @@ use Rattle.spec_whole_plans.specs.Canonical.{unplaced_name, names_of_lists, name
 use Rattle.spec_whole_plans.specs.WellFormed.{IsWellFormed}
 
 -- what the place of a line depends on, of the lines before it
-record Standing : Type 0 where
+pub record Standing : Type 0 where
   pub writer : Bool
   pub limit : Bool
   pub section : Bool
@@ -33,7 +33,7 @@ record Standing : Type 0 where
   pub listeners : ℕ
   pub writers : ℕ
 
-abbrev standing_of : List NumberedLine → Standing
+abbrev pub standing_of : List NumberedLine → Standing
 standing_of before = record {
   writer = some_line is_writer before;
   limit = some_line is_limit before;
@@ -44,17 +44,17 @@ standing_of before = record {
 }
 
 -- what is wrong with the place of a line there
-abbrev fault_in : Standing → Line → Option PlanKind
+abbrev pub fault_in : Standing → Line → Option PlanKind
 fault_in s l =
     if is_end l || (is_declaration l && s.writer) || (is_limit l && s.limit) || (is_section l && not s.writer) || (is_command l && not s.section) then Some Place
     else if (is_list l && s.lists == 256) || (is_listener l && s.listeners == 256) || (is_writer l && s.writers == 64) then Some Many else None
 
-abbrev one_more : Bool → ℕ → ℕ
+abbrev pub one_more : Bool → ℕ → ℕ
 one_more true n = suc n
 one_more false n = n
 
 -- behind one line more
-abbrev behind : Standing → Line → Standing
+abbrev pub behind : Standing → Line → Standing
 behind s l = record {
   writer = cond (is_writer l) true s.writer;
   limit = cond (is_limit l) true s.limit;
@@ -88,7 +88,7 @@ count_push test before l = sum_by-append (λ (k : NumberedLine). cond (test k.wh
 open_push : (before : List NumberedLine) (l : NumberedLine) → has_section (before ++ l ∷ []) ≡ is_open_behind (has_section before) l.what
 open_push before l = fold-append (λ was (k : NumberedLine). is_open_behind was k.what) false before (l ∷ [])
 
-standing_push : (before : List NumberedLine) (l : NumberedLine) → standing_of (before ++ l ∷ []) ≡ behind (standing_of before) l.what
+pub standing_push : (before : List NumberedLine) (l : NumberedLine) → standing_of (before ++ l ∷ []) ≡ behind (standing_of before) l.what
 standing_push before l =
     let now : Standing = standing_of (before ++ l ∷ []) in
     let was : Standing = behind (standing_of before) l.what in
