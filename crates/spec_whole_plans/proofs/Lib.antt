@@ -19,3 +19,4 @@ pub mod NamesFine
 pub mod NamesPassed
 pub mod Columns
 pub mod FaultColumns
+pub mod Again

@@ -36,7 +36,7 @@ use Rattle.spec_whole_plans.proofs.Numbers.{number_at, number_named}
 use Rattle.spec_whole_plans.proofs.Said.{all_weaker}
 use Rattle.spec_whole_plans.proofs.SoundLists.{given_more}
 use Rattle.spec_whole_plans.proofs.SoundProxies.{have_list, within_plan}
-use Rattle.spec_whole_plans.proofs.Written.{list_head, listener_head, head_of_list, no_hearer_of_list, mapped_twice, names_written, listener_names_written}
+use Rattle.spec_whole_plans.proofs.Written.{list_head, listener_head, head_of_list, no_head, no_hearer, no_hearer_of_list, mapped_twice, names_written, listener_names_written}
 use Rattle.spec_whole_plans.proofs.Makes.{in_sections, all_both}
 use Rattle.spec_whole_plans.proofs.Uses.{written, names, number_is, use_is_fine, named_is_fine, needed_written}
 use Rattle.spec_whole_plans.proofs.NamesFine.{new_name, both_none, none_of_names, list_fault_behind, list_is_fine, place_of}
@@ -195,21 +195,13 @@ module _ (p : Plan) (h : IsWellFormed p) (n : ℕ) where
   command_is_fine : (c : Command) → HasList p (needed_class c) (list_of c) → IsAttachable p c → IsFine c
   command_is_fine c l a = by_use c (named_is_fine p h n (needed_class c) (list_of c) l) l a
 
-  no_head : (c : Command) → head_of (command_line (names p h n) c) ≡ None
-  no_head (commands.Show list) = refl
-  no_head other = refl
-
-  no_hearer : (c : Command) → hearer_of (command_line (names p h n) c) ≡ None
-  no_hearer (commands.Show list) = refl
-  no_hearer other = refl
-
   commands_pass : (hs : List Head) (rs : List Hearer) (cs : List Command) (rest : List Line) → AllByRecursion IsFine cs → Passes all_lines hs rs rest → Passes all_lines hs rs (map (command_line (names p h n)) cs ++ rest)
   unfolding Passes
   commands_pass hs rs [] rest a k = k
   commands_pass hs rs (c ∷ cs) rest a k = (
     a.0 hs rs,
-    subst (λ o. Passes all_lines (followed hs o) (followed rs (hearer_of (command_line (names p h n) c))) (map (command_line (names p h n)) cs ++ rest)) (sym (no_head c))
-        (subst (λ o. Passes all_lines hs (followed rs o) (map (command_line (names p h n)) cs ++ rest)) (sym (no_hearer c)) (commands_pass hs rs cs rest a.1 k)),
+    subst (λ o. Passes all_lines (followed hs o) (followed rs (hearer_of (command_line (names p h n) c))) (map (command_line (names p h n)) cs ++ rest)) (sym (no_head (names p h n) c))
+        (subst (λ o. Passes all_lines hs (followed rs o) (map (command_line (names p h n)) cs ++ rest)) (sym (no_hearer (names p h n) c)) (commands_pass hs rs cs rest a.1 k)),
   )
 
   sections_pass : (hs : List Head) (rs : List Hearer) (sections : List (List Command)) (rest : List Line) → AllByRecursion (AllByRecursion IsFine) sections → Passes all_lines hs rs rest

@@ -92,11 +92,11 @@ abbrev pub rows_of_kind : ListKind → List Tree
 rows_of_kind (kinds.Source rows) = rows
 rows_of_kind other = []
 
-no_head : (names : List (List ℕ)) (c : Command) → head_of (command_line names c) ≡ None
+pub no_head : (names : List (List ℕ)) (c : Command) → head_of (command_line names c) ≡ None
 no_head names (commands.Show list) = refl
 no_head names other = refl
 
-no_hearer : (names : List (List ℕ)) (c : Command) → hearer_of (command_line names c) ≡ None
+pub no_hearer : (names : List (List ℕ)) (c : Command) → hearer_of (command_line names c) ≡ None
 no_hearer names (commands.Show list) = refl
 no_hearer names other = refl
 

@@ -1,4 +1,4 @@
 pub mod Canonical
+pub mod Unplaced
 pub mod WellFormed
 pub mod Rows
-pub mod Unplaced

@@ -6,11 +6,15 @@ use Rattle.spec_lang.specs.Matcher.{is}
 use Rattle.spec_lang.specs.declared.Test.TheVariants.{Gt}
 use Rattle.gl_lines.specs.declared.plan.ListKind.TheVariants.{Source, Filter, Composite}
 use Rattle.gl_lines.specs.declared.plan.Command.TheVariants.{Add, Attach, Show}
+use Rattle.gl_lines.specs.declared.line.Line.TheVariants.{Proxy}
+use Rattle.gl_lines.specs.declared.fault.PlanKind.TheVariants.{Unknown}
 use Rattle.spec_plans.specs.Making.{empty_plan, plan_of}
 use Rattle.spec_plans.specs.NameFaults.{first_fault_at}
 use Rattle.spec_plans.specs.Numbered.{numbered}
 use Rattle.spec_plans.specs.Plan.{Plan}
+use Rattle.spec_plans.specs.Rows.{at, fault}
 use Rattle.spec_whole_plans.specs.Canonical.{lines_of_plan, spelled_plan}
+use Rattle.spec_whole_plans.specs.Unplaced.{unplaced_lines}
 
 -- the text `glaze 1` alone
 nothing_declared : spelled_plan empty_plan ≡ codes "glaze 1\nlimit 16777216\n"
@@ -40,3 +44,10 @@ board_again = refl
 
 board_is_sound : first_fault_at (numbered 2 (lines_of_plan board)) ≡ None
 board_is_sound = refl
+
+-- a fault keeps its line, and has the column of its name
+unknown_name : first_fault_at (numbered 2 (Proxy (at 7 (codes "p")) (at 9 (codes "x")) ∷ [])) ≡ fault 2 9 Unknown
+unknown_name = refl
+
+unknown_unplaced : first_fault_at (unplaced_lines (numbered 2 (Proxy (at 7 (codes "p")) (at 9 (codes "x")) ∷ []))) ≡ fault 2 0 Unknown
+unknown_unplaced = refl
