@@ -30,7 +30,8 @@ module _ (names listeners : List (List ℕ)) (rows : ℕ → List Tree) where
   abbrev pub then : Plan → List Line → Plan
   then p ls = fold with_part p (map adds ls)
 
-  rows_add : (p : Plan) (name : List ℕ) (kind : ListKind) (rest : List Line) → then p (row_lines (unplaced_name name) kind ++ rest) ≡ then p rest
+  rows_add : (p : Plan) (name : List ℕ) (kind : ListKind) (rest : List Line)
+      → then p (row_lines (unplaced_name name) kind ++ rest) ≡ then p rest
   rows_add p name (kinds.Source values) rest = each values
     where
       each : (vs : List Tree) → then p (map (line.Row (unplaced_name name)) vs ++ rest) ≡ then p rest
@@ -38,19 +39,23 @@ module _ (names listeners : List (List ℕ)) (rows : ℕ → List Tree) where
       each (v ∷ vs) = each vs
   rows_add p name other rest = refl
 
-  pub lists_add : (p : Plan) (ds : List ListDecl) (rest : List Line) → AllByRecursion (λ d. adds (list_line names (unplaced_name d.name) d.kind) ≡ parts.List d) ds
+  pub lists_add : (p : Plan) (ds : List ListDecl) (rest : List Line)
+      → AllByRecursion (λ d. adds (list_line names (unplaced_name d.name) d.kind) ≡ parts.List d) ds
       → then p (flat_map (lines_of_list names) ds ++ rest) ≡ then (record p { lists = p.lists ++ ds }) rest
   lists_add p [] rest h = ap (λ ds. then (record p { lists = ds }) rest) (sym (append-nil p.lists))
   lists_add p (d ∷ ds) rest h =
       let more : List Line = row_lines (unplaced_name d.name) d.kind in
-      ap (λ ls. then p (list_line names (unplaced_name d.name) d.kind ∷ ls)) (append_assoc more (flat_map (lines_of_list names) ds) rest)
+      ap (λ ls. then p (list_line names (unplaced_name d.name) d.kind ∷ ls))
+      (append_assoc more (flat_map (lines_of_list names) ds) rest)
       ∙ ap (λ x. fold with_part (with_part p x) (map adds (more ++ (flat_map (lines_of_list names) ds ++ rest)))) h.0
       ∙ rows_add (record p { lists = p.lists ++ d ∷ [] }) d.name d.kind (flat_map (lines_of_list names) ds ++ rest)
       ∙ lists_add (record p { lists = p.lists ++ d ∷ [] }) ds rest h.1
       ∙ ap (λ es. then (record p { lists = es }) rest) (append_assoc p.lists (d ∷ []) ds)
 
-  pub listeners_add : (p : Plan) (ds : List ListenerDecl) (rest : List Line) → AllByRecursion (λ d. adds (listener_line names listeners d) ≡ parts.Listener d) ds
-      → then p (map (listener_line names listeners) ds ++ rest) ≡ then (record p { listeners = p.listeners ++ ds }) rest
+  pub listeners_add : (p : Plan) (ds : List ListenerDecl) (rest : List Line)
+      → AllByRecursion (λ d. adds (listener_line names listeners d) ≡ parts.Listener d) ds
+      → then p (map (listener_line names listeners) ds ++ rest)
+      ≡ then (record p { listeners = p.listeners ++ ds }) rest
   listeners_add p [] rest h = ap (λ ds. then (record p { listeners = ds }) rest) (sym (append-nil p.listeners))
   listeners_add p (d ∷ ds) rest h =
       ap (λ x. fold with_part (with_part p x) (map adds (map (listener_line names listeners) ds ++ rest))) h.0
@@ -61,37 +66,48 @@ module _ (names listeners : List (List ℕ)) (rows : ℕ → List Tree) where
   AreSaid cs = AllByRecursion (λ c. adds (command_line names c) ≡ parts.Command c) cs
 
   -- commands of a section that is open
-  commands_add : (p : Plan) (writers : List (List (List Command))) (sections : List (List Command)) (commands more : List Command) (rest : List Line) → AreSaid more
-      → then (record p { writers = writers ++ (sections ++ commands ∷ []) ∷ [] }) (map (command_line names) more ++ rest)
+  commands_add : (p : Plan) (writers : List (List (List Command))) (sections : List (List Command))
+      (commands more : List Command) (rest : List Line) → AreSaid more
+      → then (record p { writers = writers ++ (sections ++ commands ∷ []) ∷ [] })
+      (map (command_line names) more ++ rest)
       ≡ then (record p { writers = writers ++ (sections ++ (commands ++ more) ∷ []) ∷ [] }) rest
   commands_add p writers sections commands [] rest h =
       ap (λ cs. then (record p { writers = writers ++ (sections ++ cs ∷ []) ∷ [] }) rest) (sym (append-nil commands))
   commands_add p writers sections commands (c ∷ cs) rest h =
-      ap (λ x. fold with_part (with_part (record p { writers = writers ++ (sections ++ commands ∷ []) ∷ [] }) x) (map adds (map (command_line names) cs ++ rest))) h.0
+      ap (λ x. fold with_part (with_part (record p { writers = writers ++ (sections ++ commands ∷ []) ∷ [] }) x)
+      (map adds (map (command_line names) cs ++ rest))) h.0
       ∙ ap (λ ws. then (record p { writers = ws }) (map (command_line names) cs ++ rest))
       (with_last_behind (with_last (λ ds. ds ++ c ∷ [])) writers (sections ++ commands ∷ [])
       ∙ ap (λ ss. writers ++ ss ∷ []) (with_last_behind (λ ds. ds ++ c ∷ []) sections commands))
       ∙ commands_add p writers sections (commands ++ c ∷ []) cs rest h.1
-      ∙ ap (λ ds. then (record p { writers = writers ++ (sections ++ ds ∷ []) ∷ [] }) rest) (append_assoc commands (c ∷ []) cs)
+      ∙ ap (λ ds. then (record p { writers = writers ++ (sections ++ ds ∷ []) ∷ [] }) rest)
+      (append_assoc commands (c ∷ []) cs)
 
   -- sections of the last writer
-  sections_add : (p : Plan) (writers : List (List (List Command))) (sections more : List (List Command)) (rest : List Line) → AllByRecursion AreSaid more
-      → then (record p { writers = writers ++ sections ∷ [] }) (flat_map (lines_of_section names) more ++ rest) ≡ then (record p { writers = writers ++ (sections ++ more) ∷ [] }) rest
-  sections_add p writers sections [] rest h = ap (λ ss. then (record p { writers = writers ++ ss ∷ [] }) rest) (sym (append-nil sections))
+  sections_add : (p : Plan) (writers : List (List (List Command))) (sections more : List (List Command))
+      (rest : List Line) → AllByRecursion AreSaid more
+      → then (record p { writers = writers ++ sections ∷ [] }) (flat_map (lines_of_section names) more ++ rest)
+      ≡ then (record p { writers = writers ++ (sections ++ more) ∷ [] }) rest
+  sections_add p writers sections [] rest h = ap (λ ss. then (record p { writers = writers ++ ss ∷ [] }) rest)
+      (sym (append-nil sections))
   sections_add p writers sections (s ∷ ss) rest h =
       let later : List Line = flat_map (lines_of_section names) ss ++ rest in
-      ap (λ ls. then (record p { writers = writers ++ sections ∷ [] }) (line.Section ∷ ls)) (append_assoc (map (command_line names) s) (flat_map (lines_of_section names) ss) rest)
-      ∙ ap (λ ws. then (record p { writers = ws }) (map (command_line names) s ++ later)) (with_last_behind (λ ts. ts ++ [] ∷ []) writers sections)
+      ap (λ ls. then (record p { writers = writers ++ sections ∷ [] }) (line.Section ∷ ls))
+      (append_assoc (map (command_line names) s) (flat_map (lines_of_section names) ss) rest)
+      ∙ ap (λ ws. then (record p { writers = ws }) (map (command_line names) s ++ later))
+      (with_last_behind (λ ts. ts ++ [] ∷ []) writers sections)
       ∙ commands_add p writers sections [] s later h.0
       ∙ sections_add p writers (sections ++ s ∷ []) ss rest h.1
       ∙ ap (λ ts. then (record p { writers = writers ++ ts ∷ [] }) rest) (append_assoc sections (s ∷ []) ss)
 
-  pub writers_add : (p : Plan) (more : List (List (List Command))) (rest : List Line) → AllByRecursion (AllByRecursion AreSaid) more
+  pub writers_add : (p : Plan) (more : List (List (List Command))) (rest : List Line)
+      → AllByRecursion (AllByRecursion AreSaid) more
       → then p (flat_map (lines_of_writer names) more ++ rest) ≡ then (record p { writers = p.writers ++ more }) rest
   writers_add p [] rest h = ap (λ ws. then (record p { writers = ws }) rest) (sym (append-nil p.writers))
   writers_add p (w ∷ ws) rest h =
       let later : List Line = flat_map (lines_of_writer names) ws ++ rest in
-      ap (λ ls. then p (line.Writer ∷ ls)) (append_assoc (flat_map (lines_of_section names) w) (flat_map (lines_of_writer names) ws) rest)
+      ap (λ ls. then p (line.Writer ∷ ls)) (append_assoc (flat_map (lines_of_section names) w)
+      (flat_map (lines_of_writer names) ws) rest)
       ∙ sections_add p p.writers [] w later h.0
       ∙ writers_add (record p { writers = p.writers ++ w ∷ [] }) ws rest h.1
       ∙ ap (λ vs. then (record p { writers = vs }) rest) (append_assoc p.writers (w ∷ []) ws)

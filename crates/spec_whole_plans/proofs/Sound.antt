@@ -19,8 +19,10 @@ pub sound_lines_well_formed : (lines : List NumberedLine) → first_fault_at lin
 sound_lines_well_formed lines sound =
     let at_start : Misplaced → FaultAt = λ m. record { line = m.line; column = 1; kind = m.kind } in
     let placed : first_misplaced lines ≡ None =
-    unmapped at_start (first_misplaced lines) (first_none (option_map at_start (first_misplaced lines)) (first_misnamed lines) sound) in
-    let named : first_misnamed lines ≡ None = second_none (option_map at_start (first_misplaced lines)) (first_misnamed lines) sound in
+    unmapped at_start (first_misplaced lines) (first_none (option_map at_start (first_misplaced lines))
+    (first_misnamed lines) sound) in
+    let named : first_misnamed lines ≡ None = second_none (option_map at_start (first_misplaced lines))
+    (first_misnamed lines) sound in
     record {
       list_names = list_names_distinct lines named;
       listener_names = listener_names_distinct lines named;

@@ -43,14 +43,17 @@ module _ (p : Plan) (h : IsWellFormed p) (n : ℕ) where
   -- the class of a name's list
   class_written : (name : List ℕ) (k : ℕ) → number_of names name ≡ Some k → class_of written name ≡ class_at p k
   class_written name k e =
-      ap (λ o. option_map (λ (j : Head). j.class) (option_and_then (slice_get (heads written)) o)) (ap (λ ns. number_of ns name) (names_written p n) ∙ e)
+      ap (λ o. option_map (λ (j : Head). j.class) (option_and_then (slice_get (heads written)) o))
+      (ap (λ ns. number_of ns name) (names_written p n) ∙ e)
       ∙ sym (class_is written k)
       ∙ ap (λ q. class_at q k) (canonical_makes_from p h n)
 
-  of_need : (need : Option ListClass) (named : Named) (k : ℕ) → HasList p need k → use_fault_of need named (class_at p k) ≡ None
+  of_need : (need : Option ListClass) (named : Named) (k : ℕ) → HasList p need k
+      → use_fault_of need named (class_at p k) ≡ None
   of_need None named k l = by (class_at p k) refl
     where
-      there : (ds : List ListDecl) (i : ℕ) → i < length ds → option_map (λ d. class_of_kind d.kind) (slice_get ds i) ≡ None → ⊥
+      there : (ds : List ListDecl) (i : ℕ) → i < length ds
+          → option_map (λ d. class_of_kind d.kind) (slice_get ds i) ≡ None → ⊥
       there [] i l e = absurd (omega (arith, l))
       there (d ∷ ds) zero l e = none-some (class_of_kind d.kind) (sym e)
       there (d ∷ ds) (suc i) l e = there ds i (omega (arith, l)) e
@@ -59,24 +62,30 @@ module _ (p : Plan) (h : IsWellFormed p) (n : ℕ) where
       by None e = absurd (there p.lists k l e)
       by (Some class) e = refl
   of_need (Some class) named k e =
-      ap (use_fault_of (Some class) named) e ∙ ap (λ t. if t then None else wrong named Kind) (eq-eqb (class_number class) (class_number class) refl)
+      ap (use_fault_of (Some class) named) e ∙ ap (λ t. if t then None else wrong named Kind)
+      (eq-eqb (class_number class) (class_number class) refl)
 
   -- a name that stands for a list of the class that is needed
-  pub use_is_fine : (need : Option ListClass) (named : Named) (k : ℕ) → number_of names named.name ≡ Some k → HasList p need k → use_fault written need named ≡ None
+  pub use_is_fine : (need : Option ListClass) (named : Named) (k : ℕ) → number_of names named.name ≡ Some k
+      → HasList p need k → use_fault written need named ≡ None
   use_is_fine need named k e l = ap (use_fault_of need named) (class_written named.name k e) ∙ of_need need named k l
 
   pub number_is : (k : ℕ) → k < length p.lists → number_of names (named names k).name ≡ Some k
-  number_is k l = number_named names k h.list_names (subst (λ m. k < m) (sym (length-map p.lists (λ (d : ListDecl). d.name))) l)
+  number_is k l = number_named names k h.list_names (subst (λ m. k < m)
+      (sym (length-map p.lists (λ (d : ListDecl). d.name))) l)
 
   -- the name of a list's number
-  pub named_is_fine : (need : Option ListClass) (k : ℕ) → HasList p need k → use_fault written need (named names k) ≡ None
+  pub named_is_fine : (need : Option ListClass) (k : ℕ) → HasList p need k
+      → use_fault written need (named names k) ≡ None
   named_is_fine need k l = use_is_fine need (named names k) k (number_is k (have_list p need k l)) l
 
   -- what lists need, by their places
-  pub inputs_have : (k : ℕ) (d : ListDecl) → slice_get p.lists k ≡ Some d → AllByRecursion (HasList p (input_need (class_of_kind d.kind))) (inputs_of d.kind)
+  pub inputs_have : (k : ℕ) (d : ListDecl) → slice_get p.lists k ≡ Some d
+      → AllByRecursion (HasList p (input_need (class_of_kind d.kind))) (inputs_of d.kind)
   inputs_have k d e =
       recursion_from_All (HasList p (input_need (class_of_kind d.kind))) (inputs_of d.kind)
-      (all_at (λ (m : ListDecl). HasInputs p m.kind) p.lists k d (recursion_from_All (λ (m : ListDecl). HasInputs p m.kind) p.lists h.inputs) e)
+      (all_at (λ (m : ListDecl). HasInputs p m.kind) p.lists k d
+      (recursion_from_All (λ (m : ListDecl). HasInputs p m.kind) p.lists h.inputs) e)
 
   pub together : (kind : ListKind) → inputs_of kind ≡ members_of kind ++ may_of kind
   together (kinds.Composite members may) = refl
@@ -86,17 +95,22 @@ module _ (p : Plan) (h : IsWellFormed p) (n : ℕ) where
   known_heads : AreKnown (list_names written) (heads written)
   known_heads =
       let P : Head → Type 0 = λ j. AllByRecursion (λ m. IsKnown (list_names written) m.name) (j.inputs ++ j.may) in
-      subst (AllByRecursion P) (sym (heads_written p n)) (all_map P (list_head names) p.lists (all_by_place (λ d. P (list_head names d)) p.lists each))
+      subst (AllByRecursion P) (sym (heads_written p n)) (all_map P (list_head names) p.lists
+      (all_by_place (λ d. P (list_head names d)) p.lists each))
     where
       known : (k : ℕ) → k < length p.lists → IsKnown (list_names written) (named names k).name
       known k l = (k, ap (λ ns. number_of ns (named names k).name) (names_written p n) ∙ number_is k l)
 
-      each : (k : ℕ) (d : ListDecl) → slice_get p.lists k ≡ Some d → AllByRecursion (λ m. IsKnown (list_names written) m.name) (map (named names) (members_of d.kind) ++ map (named names) (may_of d.kind))
+      each : (k : ℕ) (d : ListDecl) → slice_get p.lists k ≡ Some d
+          → AllByRecursion (λ m. IsKnown (list_names written) m.name)
+          (map (named names) (members_of d.kind) ++ map (named names) (may_of d.kind))
       each k d e =
           let need : Option ListClass = input_need (class_of_kind d.kind) in
           let all : AllByRecursion (λ i. IsKnown (list_names written) (named names i).name) (inputs_of d.kind) =
-          all_weaker (HasList p need) (λ i. IsKnown (list_names written) (named names i).name) (λ i l. known i (have_list p need i l)) (inputs_of d.kind) (inputs_have k d e) in
-          subst (AllByRecursion (λ m. IsKnown (list_names written) m.name)) (ap (map (named names)) (together d.kind) ∙ map-append (named names) (members_of d.kind) (may_of d.kind))
+          all_weaker (HasList p need) (λ i. IsKnown (list_names written) (named names i).name)
+          (λ i l. known i (have_list p need i l)) (inputs_of d.kind) (inputs_have k d e) in
+          subst (AllByRecursion (λ m. IsKnown (list_names written) m.name)) (ap (map (named names)) (together d.kind)
+          ∙ map-append (named names) (members_of d.kind) (may_of d.kind))
           (all_map (λ m. IsKnown (list_names written) m.name) (named names) (inputs_of d.kind) all)
 
   pub needed_written : (a : ℕ) → needed written a ≡ inputs_at p a
@@ -106,7 +120,8 @@ module _ (p : Plan) (h : IsWellFormed p) (n : ℕ) where
   edges_by_inputs : (a b : ℕ) → Contains (inputs_at p a) b → DependsOn (list_edges p) a b
   edges_by_inputs a b c =
       needed_edge (map (λ (d : ListDecl). inputs_of d.kind) p.lists) a b
-      (subst (λ o. Contains (unwrap_or o []) b) (sym (slice_get-map (λ (d : ListDecl). inputs_of d.kind) p.lists a)) c)
+      (subst (λ o. Contains (unwrap_or o []) b) (sym (slice_get-map (λ (d : ListDecl). inputs_of d.kind) p.lists a))
+      c)
 
   -- a walk to a proxy
   record ToProxy (a : ℕ) : Type 0 where
@@ -121,9 +136,11 @@ module _ (p : Plan) (h : IsWellFormed p) (n : ℕ) where
   pumped_class other e = absurd cc
 
   proxy_class : (a : ℕ) → is_proxy (heads written) a ≡ true → class_at p a ≡ Some Pumped
-  proxy_class a e = sym (ap (λ q. class_at q a) (canonical_makes_from p h n)) ∙ class_is written a ∙ by (slice_get (heads written) a) e
+  proxy_class a e = sym (ap (λ q. class_at q a) (canonical_makes_from p h n)) ∙ class_is written a
+      ∙ by (slice_get (heads written) a) e
     where
-      by : (o : Option Head) → unwrap_or (option_map (λ j. is_pumped j.class) o) false ≡ true → option_map (λ j. j.class) o ≡ Some Pumped
+      by : (o : Option Head) → unwrap_or (option_map (λ j. is_pumped j.class) o) false ≡ true
+          → option_map (λ j. j.class) o ≡ Some Pumped
       by None f = absurd cc
       by (Some j) f = ap Some (pumped_class j.class f)
 
@@ -148,19 +165,28 @@ module _ (p : Plan) (h : IsWellFormed p) (n : ℕ) where
   -- what leads to a proxy is one or has a walk to one
   leads : (steps a : ℕ) → leads_to_proxy written steps a ≡ true → (class_at p a ≡ Some Pumped) ⊎ ToProxy a
   leads zero a e = inl (proxy_class a e)
-  leads (suc s) a e = elim (either (is_proxy (heads written) a) (list_any (leads_to_proxy written s) (needed written a)) e) [
-    | inl is ↦ inl (proxy_class a is)
-    | inr some ↦
-        let m = among (leads_to_proxy written s) (needed written a) some in
-        let edge : DependsOn (list_edges p) a m.item = edges_by_inputs a m.item (subst (λ ns. Contains ns m.item) (needed_written a) m.there) in
-        elim (leads s m.item m.passes) [
-          | inl proxy ↦ inr (record { proxy = m.item; pumped = proxy; through = []; walk = edge })
-          | inr way ↦ inr (record { proxy = way.proxy; pumped = way.pumped; through = m.item ∷ way.through; walk = (edge, way.walk) })
-        ]
-  ]
+  leads (suc s) a e = elim (either (is_proxy (heads written) a)
+      (list_any (leads_to_proxy written s) (needed written a)) e) [
+        | inl is ↦ inl (proxy_class a is)
+        | inr some ↦
+            let m = among (leads_to_proxy written s) (needed written a) some in
+            let edge : DependsOn (list_edges p) a m.item = edges_by_inputs a m.item
+            (subst (λ ns. Contains ns m.item) (needed_written a) m.there) in
+            elim (leads s m.item m.passes) [
+              | inl proxy ↦ inr (record { proxy = m.item; pumped = proxy; through = []; walk = edge })
+              | inr way ↦ inr (record {
+                proxy = way.proxy;
+                pumped = way.pumped;
+                through = m.item ∷ way.through;
+                walk =
+                    (edge, way.walk);
+              })
+            ]
+      ]
 
   -- a composite or a collection is over no proxy
-  pub not_over_proxy : (a : ℕ) (class : ListClass) → class_at p a ≡ Some class → shuns_proxies class ≡ true → is_over_proxy written a ≡ false
+  pub not_over_proxy : (a : ℕ) (class : ListClass) → class_at p a ≡ Some class → shuns_proxies class ≡ true
+      → is_over_proxy written a ≡ false
   not_over_proxy a class e s = by (is_over_proxy written a) refl
     where
       shunning : (c : ListClass) → shuns_proxies c ≡ true → Some c ≡ Some Pumped → ⊥

@@ -24,22 +24,27 @@ edges_to a (y ∷ ys) x c = elim (Contains-cons_cases y ys x c) [
   | inr later ↦ Contains-later (edge a y) (map (λ b. (a, b)) ys) (edge a x) (edges_to a ys x later)
 ]
 
-edge_of : (number k i : ℕ) (needed : List (List ℕ)) → Contains (needs_at needed k) i → DependsOn (edges_from number needed) (number + k) i
+edge_of : (number k i : ℕ) (needed : List (List ℕ)) → Contains (needs_at needed k) i
+    → DependsOn (edges_from number needed) (number + k) i
 edge_of number k i [] c = absurd (Contains-nil i c)
 edge_of number zero i (n ∷ ns) c =
     let e : number + 0 ≡ number = omega arith in
-    rw e (Contains-append_left (map (λ b. (number, b)) n) (edges_from (suc number) ns) (edge number i) (edges_to number n i c))
+    rw e (Contains-append_left (map (λ b. (number, b)) n) (edges_from (suc number) ns) (edge number i)
+    (edges_to number n i c))
 edge_of number (suc k) i (n ∷ ns) c =
     let e : number + suc k ≡ suc number + k = omega arith in
-    rw e (Contains-append_right (map (λ b. (number, b)) n) (edges_from (suc number) ns) (edge (suc number + k) i) (edge_of (suc number) k i ns c))
+    rw e (Contains-append_right (map (λ b. (number, b)) n) (edges_from (suc number) ns) (edge (suc number + k) i)
+    (edge_of (suc number) k i ns c))
 
 -- an item depends on what it needs
-pub needed_edge : (needed : List (List ℕ)) (a b : ℕ) → Contains (needs_at needed a) b → DependsOn (edges_from 0 needed) a b
+pub needed_edge : (needed : List (List ℕ)) (a b : ℕ) → Contains (needs_at needed a) b
+    → DependsOn (edges_from 0 needed) a b
 needed_edge needed a b c =
     let e : 0 + a ≡ a = omega arith in
     subst (λ k. DependsOn (edges_from 0 needed) k b) e (edge_of 0 a b needed c)
 
-ends_of : (number : ℕ) (xs : List ℕ) (a b : ℕ) → DependsOn (map (λ x. (number, x)) xs) a b → (number ≡ a) × Contains xs b
+ends_of : (number : ℕ) (xs : List ℕ) (a b : ℕ) → DependsOn (map (λ x. (number, x)) xs) a b
+    → (number ≡ a) × Contains xs b
 ends_of number [] a b c = absurd (Contains-nil (edge a b) c)
 ends_of number (x ∷ xs) a b c = elim (Contains-cons_cases (edge number x) (map (λ y. (number, y)) xs) (edge a b) c) [
   | inl e ↦ (ap (λ p. p.0) e, Contains-here x xs b (ap (λ p. p.1) e))
@@ -54,19 +59,22 @@ record Origin (number : ℕ) (needed : List (List ℕ)) (a b : ℕ) : Type 0 whe
   pub from : a ≡ number + place
   pub needs : Contains (needs_at needed place) b
 
-origin : (number : ℕ) (needed : List (List ℕ)) (a b : ℕ) → DependsOn (edges_from number needed) a b → Origin number needed a b
+origin : (number : ℕ) (needed : List (List ℕ)) (a b : ℕ) → DependsOn (edges_from number needed) a b
+    → Origin number needed a b
 origin number [] a b c = absurd (Contains-nil (edge a b) c)
-origin number (n ∷ ns) a b c = elim (Contains-append_cases (map (λ x. (number, x)) n) (edges_from (suc number) ns) (edge a b) c) [
-  | inl here ↦
-      let ends = ends_of number n a b here in
-      record { place = 0; from = omega (arith, ends.0); needs = ends.1 }
-  | inr there ↦
-      let rest = origin (suc number) ns a b there in
-      record { place = suc rest.place; from = omega (arith, rest.from); needs = rest.needs }
-]
+origin number (n ∷ ns) a b c = elim (Contains-append_cases (map (λ x. (number, x)) n) (edges_from (suc number) ns)
+    (edge a b) c) [
+      | inl here ↦
+          let ends = ends_of number n a b here in
+          record { place = 0; from = omega (arith, ends.0); needs = ends.1 }
+      | inr there ↦
+          let rest = origin (suc number) ns a b there in
+          record { place = suc rest.place; from = omega (arith, rest.from); needs = rest.needs }
+    ]
 
 -- an item needs what it depends on
-pub edge_needed : (needed : List (List ℕ)) (a b : ℕ) → DependsOn (edges_from 0 needed) a b → Contains (needs_at needed a) b
+pub edge_needed : (needed : List (List ℕ)) (a b : ℕ) → DependsOn (edges_from 0 needed) a b
+    → Contains (needs_at needed a) b
 edge_needed needed a b d =
     let o = origin 0 needed a b d in
     let e : o.place ≡ a = omega (arith, o.from) in
@@ -80,11 +88,16 @@ pub record Way (edges : List (ℕ × ℕ)) (a b : ℕ) : Type 0 where
 
 apart : (zs : List ℕ) (a : ℕ) → ¬ Contains zs a → AllByRecursion (λ z. eqb a z ≡ false) zs
 apart [] a n = tt
-apart (z ∷ zs) a n = (ne_eqb a z (λ e. n (Contains-here z zs a (sym e))), apart zs a (λ c. n (Contains-later z zs a c)))
+apart (z ∷ zs) a n = (
+  ne_eqb a z (λ e. n (Contains-here z zs a (sym e))),
+  apart zs a
+      (λ c. n (Contains-later z zs a c)),
+)
 
 module _ (edges : List (ℕ × ℕ)) where
   -- the way from an item that a way passes
-  cut : (ys : List ℕ) (x a b : ℕ) → IsWalk edges x ys b → IsDistinct eqb (x ∷ ys) → Contains (x ∷ ys) a → Way edges a b
+  cut : (ys : List ℕ) (x a b : ℕ) → IsWalk edges x ys b → IsDistinct eqb (x ∷ ys) → Contains (x ∷ ys) a
+      → Way edges a b
   unfolding IsDistinct
   cut [] x a b w d c = elim (Contains-cons_cases x [] a c) [
     | inl e ↦ subst (λ k. Way edges k b) e (record { through = []; walk = w; distinct = d })
@@ -103,7 +116,12 @@ module _ (edges : List (ℕ × ℕ)) where
       let rest = way_of xs x b w.1 in
       elim (member (x ∷ rest.through) a) [
         | inl c ↦ cut rest.through x a b rest.walk rest.distinct c
-        | inr n ↦ record { through = x ∷ rest.through; walk = (w.0, rest.walk); distinct = (apart (x ∷ rest.through) a n, rest.distinct) }
+        | inr n ↦ record {
+          through = x ∷ rest.through;
+          walk = (w.0, rest.walk);
+          distinct =
+              (apart (x ∷ rest.through) a n, rest.distinct);
+        }
       ]
 
   module _ (n : ℕ) (within : (a x : ℕ) → DependsOn edges a x → x < n) where
@@ -111,7 +129,8 @@ module _ (edges : List (ℕ × ℕ)) where
     passed_below [] a b q w e = absurd cc
     passed_below (x ∷ xs) a b q w e = by (eqb q x) refl e (λ f. passed_below xs x b q w.1 f)
       where
-        by : (t : Bool) → eqb q x ≡ t → (t || list_any (eqb q) xs) ≡ true → (list_any (eqb q) xs ≡ true → q < n) → q < n
+        by : (t : Bool) → eqb q x ≡ t → (t || list_any (eqb q) xs) ≡ true → (list_any (eqb q) xs ≡ true → q < n)
+            → q < n
         by true h f rest = subst (λ k. k < n) (sym (eqb-true q x h)) (within a x w.0)
         by false h f rest = rest f
 

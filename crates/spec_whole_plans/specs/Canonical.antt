@@ -37,7 +37,8 @@ list_line names name (kinds.Grouping input order) = line.Grouping name (named na
 list_line names name (kinds.Range input bounds) = line.Range name (named names input) bounds
 list_line names name (kinds.Function input func) = line.Function name (named names input) func
 list_line names name (kinds.Collection input kids) = line.Collection name (named names input) kids
-list_line names name (kinds.Composite members may) = line.Composite name (map (named names) members) (map (named names) may)
+list_line names name (kinds.Composite members may) = line.Composite name (map (named names) members)
+    (map (named names) may)
 list_line names name (kinds.Transaction input) = line.Transaction name (named names input)
 list_line names name (kinds.Freezable input) = line.Freezable name (named names input)
 list_line names name (kinds.Proxy input) = line.Proxy name (named names input)
@@ -53,7 +54,8 @@ lines_of_list names d = list_line names (unplaced_name d.name) d.kind ∷ row_li
 
 -- the line that declares a listener, by the names of all lists and of all listeners
 abbrev pub listener_line : List (List ℕ) → List (List ℕ) → ListenerDecl → Line
-listener_line lists listeners d = line.Listen (unplaced_name d.name) (named lists d.list) (map (named listeners) d.after) d.echo
+listener_line lists listeners d = line.Listen (unplaced_name d.name) (named lists d.list)
+    (map (named listeners) d.after) d.echo
 
 abbrev pub command_line : List (List ℕ) → Command → Line
 command_line names (commands.Add list value) = line.Add (named names list) value

@@ -1,5 +1,5 @@
 -- Worked rows of the one text of a plan, each by computing.
-use Rattle.std.specs.Prelude.{◌≡◌, pos, true, [], ◌∷◌, None, refl, codes}
+use Rattle.std.specs.Prelude.{◌≡◌, pos, true, List, [], ◌∷◌, None, refl, codes}
 use Rattle.std.specs.Fmt.{digits}
 use Rattle.spec_value.specs.Tree.{num}
 use Rattle.spec_lang.specs.Matcher.{is}
@@ -7,6 +7,7 @@ use Rattle.spec_lang.specs.declared.Test.TheVariants.{Gt}
 use Rattle.gl_lines.specs.declared.plan.ListKind.TheVariants.{Source, Filter, Composite}
 use Rattle.gl_lines.specs.declared.plan.Command.TheVariants.{Add, Attach, Show}
 use Rattle.gl_lines.specs.declared.line.Line.TheVariants.{Proxy}
+use Rattle.gl_lines.specs.declared.line.NumberedLine.{NumberedLine}
 use Rattle.gl_lines.specs.declared.fault.PlanKind.TheVariants.{Unknown}
 use Rattle.spec_plans.specs.Making.{empty_plan, plan_of}
 use Rattle.spec_plans.specs.NameFaults.{first_fault_at}
@@ -30,7 +31,9 @@ board = record {
       ∷ record { name = codes "s"; kind = Source (num (pos 1) ∷ num (pos 7) ∷ []) }
       ∷ record { name = codes "f"; kind = Filter 1 (is [] Gt (num (pos 2))) }
       ∷ [];
-  listeners = record { name = codes "a"; list = 0; after = 1 ∷ []; echo = true } ∷ record { name = codes "b"; list = 2; after = []; echo = true } ∷ [];
+  listeners = record { name = codes "a"; list = 0; after = 1 ∷ []; echo = true }
+      ∷ record { name = codes "b"; list = 2; after = []; echo = true }
+      ∷ [];
   writers = ((Add 1 (num (pos 5)) ∷ Attach 0 1 ∷ []) ∷ (Show 0 ∷ []) ∷ []) ∷ [] ∷ [];
 }
 
@@ -45,9 +48,12 @@ board_again = refl
 board_is_sound : first_fault_at (numbered 2 (lines_of_plan board)) ≡ None
 board_is_sound = refl
 
--- a fault keeps its line, and has the column of its name
-unknown_name : first_fault_at (numbered 2 (Proxy (at 7 (codes "p")) (at 9 (codes "x")) ∷ [])) ≡ fault 2 9 Unknown
+-- proxy p x: a fault keeps its line, and has the column of its name
+abbrev pub follower : List NumberedLine
+follower = numbered 2 (Proxy (at 7 (codes "p")) (at 9 (codes "x")) ∷ [])
+
+unknown_name : first_fault_at follower ≡ fault 2 9 Unknown
 unknown_name = refl
 
-unknown_unplaced : first_fault_at (unplaced_lines (numbered 2 (Proxy (at 7 (codes "p")) (at 9 (codes "x")) ∷ []))) ≡ fault 2 0 Unknown
+unknown_unplaced : first_fault_at (unplaced_lines follower) ≡ fault 2 0 Unknown
 unknown_unplaced = refl

@@ -121,7 +121,8 @@ pub record IsWellFormed (p : Plan) : Type 0 where
   -- no two transactions have one input
   pub one_transaction : IsDistinct (λ a b. a == b) (undone_inputs_of p)
   -- no composite and no collection depends on a proxy, be it through other lists
-  pub no_proxies : (a b : ℕ) (through : List ℕ) (class : ListClass) → class_at p a ≡ Some class → shuns_proxies class ≡ true
+  pub no_proxies : (a b : ℕ) (through : List ℕ) (class : ListClass) → class_at p a ≡ Some class
+      → shuns_proxies class ≡ true
       → class_at p b ≡ Some Pumped → ¬ IsWalk (list_edges p) a through b
   pub few_lists : length p.lists ≤ 256
   pub few_listeners : length p.listeners ≤ 256
