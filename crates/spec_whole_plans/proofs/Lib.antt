@@ -20,3 +20,4 @@ pub mod NamesPassed
 pub mod Columns
 pub mod FaultColumns
 pub mod Again
+pub mod Within

@@ -19,7 +19,7 @@ use Rattle.spec_plans.specs.Names.{heads, needed, is_pumped, is_proxy, leads_to_
 use Rattle.spec_plans.specs.NameFaults.{shuns_proxies, proxy_fault, naming, first_misnamed, input_need}
 use Rattle.spec_plans.specs.Plan.{Plan, inputs_of, list_edges}
 use Rattle.spec_plans.specs.Making.{plan_of}
-use Rattle.spec_whole_plans.specs.WellFormed.{class_of_kind, class_at, inputs_at, HasList, HasInputs}
+use Rattle.spec_whole_plans.specs.WellFormed.{class_of_kind, class_at, inputs_at, HasList, HasInputs, LeadsTo}
 use Rattle.spec_whole_plans.proofs.Numbers.{all_at}
 use Rattle.spec_whole_plans.proofs.Said.{first_none, second_none}
 use Rattle.spec_whole_plans.proofs.Made.{class_is, as_many_lists}
@@ -139,10 +139,10 @@ module _ (lines : List NumberedLine) (fine : first_misnamed lines ≡ None) wher
           clean (shuns_proxies h.class) (is_over_proxy lines a) (ap shuns_proxies same
           ∙ s) (subst (λ n. proxy_fault lines n h.class ≡ None) zero_more none)
 
-  pub over_no_proxy : (a b : ℕ) (through : List ℕ) (class : ListClass) → class_at (plan_of lines) a ≡ Some class
+  walks_to_none : (a b : ℕ) (through : List ℕ) (class : ListClass) → class_at (plan_of lines) a ≡ Some class
       → shuns_proxies class ≡ true
       → class_at (plan_of lines) b ≡ Some Pumped → ¬ IsWalk (list_edges (plan_of lines)) a through b
-  over_no_proxy a b through class e s proxy walk =
+  walks_to_none a b through class e s proxy walk =
       let edges : List (ℕ × ℕ) = list_edges (plan_of lines) in
       let within : (c x : ℕ) → DependsOn edges c x → x < length (plan_of lines).lists =
       λ c x d. within_plan (plan_of lines) (has_inputs lines fine) c x (inputs_by_edges (plan_of lines) c x d) in
@@ -159,3 +159,12 @@ module _ (lines : List NumberedLine) (fine : first_misnamed lines ≡ None) wher
           → unwrap_or (option_map (λ h. is_pumped h.class) o) false ≡ true
       pumped None f = absurd (none-some Pumped f)
       pumped (Some h) f = ap is_pumped (same_Some h.class Pumped f)
+
+  pub over_no_proxy : (a b : ℕ) → option_map shuns_proxies (class_at (plan_of lines) a) ≡ Some true
+      → class_at (plan_of lines) b ≡ Some Pumped → ¬ LeadsTo (plan_of lines) a b
+  over_no_proxy a b shuns proxy way = by (class_at (plan_of lines) a) refl shuns
+    where
+      by : (o : Option ListClass) → class_at (plan_of lines) a ≡ o → option_map shuns_proxies o ≡ Some true → ⊥
+      by None e s = none-some true s
+      by (Some class) e s =
+          walks_to_none a b way.0 class e (same_Some (shuns_proxies class) true s) proxy way.1

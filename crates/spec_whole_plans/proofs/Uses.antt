@@ -196,5 +196,7 @@ module _ (p : Plan) (h : IsWellFormed p) (n : ℕ) where
       by false f = refl
       by true f = elim (leads (length (heads written)) a f) [
         | inl proxy ↦ absurd (shunning class s (sym e ∙ proxy))
-        | inr way ↦ absurd (h.no_proxies a way.proxy way.through class e s way.pumped way.walk)
+        | inr way ↦
+            let shuns : option_map shuns_proxies (class_at p a) ≡ Some true = ap (option_map shuns_proxies) e ∙ ap Some s in
+            absurd (h.no_proxies a way.proxy shuns way.pumped (way.through, way.walk))
       ]

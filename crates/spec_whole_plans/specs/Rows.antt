@@ -1,5 +1,5 @@
 -- Worked rows of the one text of a plan, each by computing.
-use Rattle.std.specs.Prelude.{◌≡◌, pos, true, List, [], ◌∷◌, None, refl, codes}
+use Rattle.std.specs.Prelude.{◌≡◌, pos, true, List, [], ◌∷◌, ◌++◌, None, refl, codes}
 use Rattle.std.specs.Fmt.{digits}
 use Rattle.spec_value.specs.Tree.{num}
 use Rattle.spec_lang.specs.Matcher.{is}
@@ -37,7 +37,10 @@ board = record {
   writers = ((Add 1 (num (pos 5)) ∷ Attach 0 1 ∷ []) ∷ (Show 0 ∷ []) ∷ []) ∷ [] ∷ [];
 }
 
-board_spelled : spelled_plan board ≡ codes "glaze 1\nlimit 9\ncomposite c f may s\nsource s\nrow s 1\nrow s 7\nfilter f s . > 2\nlisten a on c after b echo\nlisten b on f echo\nwriter\nsection\nadd s 5\nattach c s\nsection\nshow c\nwriter\n"
+board_spelled : spelled_plan board
+    ≡ codes "glaze 1\nlimit 9\ncomposite c f may s\nsource s\nrow s 1\nrow s 7\nfilter f s . > 2\n"
+    ++ codes "listen a on c after b echo\nlisten b on f echo\n"
+    ++ codes "writer\nsection\nadd s 5\nattach c s\nsection\nshow c\nwriter\n"
 unfolding digits
 board_spelled = refl
 

@@ -109,6 +109,10 @@ abbrev pub IsAttachable : Plan → Command → Type 0
 IsAttachable p (commands.Attach list member) = Contains (inputs_at p list) member
 IsAttachable p other = ⊤
 
+-- a list depends on another, itself or through others
+abbrev pub LeadsTo : Plan → ℕ → ℕ → Type 0
+LeadsTo p a b = (through : List ℕ) × IsWalk (list_edges p) a through b
+
 pub record IsWellFormed (p : Plan) : Type 0 where
   -- no two lists have one name, and no two listeners
   pub list_names : IsDistinct bytes_eq (names_of_lists p)
@@ -120,10 +124,10 @@ pub record IsWellFormed (p : Plan) : Type 0 where
   pub attached : All (IsAttachable p) (all_commands p)
   -- no two transactions have one input
   pub one_transaction : IsDistinct (λ a b. a == b) (undone_inputs_of p)
-  -- no composite and no collection depends on a proxy, be it through other lists
-  pub no_proxies : (a b : ℕ) (through : List ℕ) (class : ListClass) → class_at p a ≡ Some class
-      → shuns_proxies class ≡ true
-      → class_at p b ≡ Some Pumped → ¬ IsWalk (list_edges p) a through b
+  -- no composite and no collection depends on a proxy
+  pub no_proxies : (a b : ℕ) → option_map shuns_proxies (class_at p a) ≡ Some true → class_at p b ≡ Some Pumped
+      → ¬ LeadsTo p a b
+  -- and there are not too many
   pub few_lists : length p.lists ≤ 256
   pub few_listeners : length p.listeners ≤ 256
   pub few_writers : length p.writers ≤ 64
