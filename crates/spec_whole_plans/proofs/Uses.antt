@@ -197,6 +197,7 @@ module _ (p : Plan) (h : IsWellFormed p) (n : ℕ) where
       by true f = elim (leads (length (heads written)) a f) [
         | inl proxy ↦ absurd (shunning class s (sym e ∙ proxy))
         | inr way ↦
-            let shuns : option_map shuns_proxies (class_at p a) ≡ Some true = ap (option_map shuns_proxies) e ∙ ap Some s in
+            let shuns : option_map shuns_proxies (class_at p a) ≡ Some true =
+            ap (option_map shuns_proxies) e ∙ ap Some s in
             absurd (h.no_proxies a way.proxy shuns way.pumped (way.through, way.walk))
       ]
