@@ -15,3 +15,4 @@ pub mod Matchers
 pub mod Names
 pub mod Spelled
 pub mod Within
+pub mod OneSpelling
