@@ -16,3 +16,4 @@ pub mod Names
 pub mod Spelled
 pub mod Within
 pub mod OneSpelling
+pub mod Parentheses

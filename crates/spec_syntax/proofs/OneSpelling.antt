@@ -1,14 +1,12 @@
 -- Paths, orders, bounds and functions have one spelling each: what the grammar spells is exactly that.
 use Rattle.std.proofs.Common.{◌≡◌, ℕ, zero, suc, List, [], ◌∷◌, ◌++◌, refl, sym, ap, ◌∙◌, inl, inr, arith, append_assoc, codes}
 use Rattle.std.specs.Prelude.{decimal}
-use Rattle.spec_value.specs.Tree.{text}
 use Rattle.spec_grammar.specs.Grammar.{Grammar, after, closed, apart, optional, many, more_of, listed, upto}
 use Rattle.spec_lang.specs.declared.Bounds.{Bounds}
 use Rattle.spec_lang.specs.declared.Bounds.TheVariants.{Head, Tail, Middle}
-use Rattle.spec_lang.specs.Sorting.{Key}
-use Rattle.spec_lang.specs.Func.{Func, at_path, number, bytes, count, total, sum, list, funcs}
+use Rattle.spec_lang.specs.Func.{Func, funcs}
 use Rattle.spec_texts.specs.Value.{spelled_value}
-use Rattle.spec_syntax.specs.Path.{path_index, path, upward, downward, key, order}
+use Rattle.spec_syntax.specs.Path.{path_index, path, key, order}
 use Rattle.spec_syntax.specs.Bounds.{short_number, two_numbers, bounds}
 use Rattle.spec_syntax.specs.Value.{bracketed, value}
 use Rattle.spec_syntax.specs.Func.{flat_func, list_func, func}
