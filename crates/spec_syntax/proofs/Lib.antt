@@ -17,3 +17,5 @@ pub mod Spelled
 pub mod Within
 pub mod OneSpelling
 pub mod Parentheses
+pub mod Limits
+pub mod Nestings

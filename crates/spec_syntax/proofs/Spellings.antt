@@ -48,6 +48,15 @@ number_first d ds top n l m h s =
 pub positive_is : (top n : ℕ) (t : List ℕ) → 9 ≤ top → top < 2 ^ 64 → positive top n t → t ≡ decimal n
 positive_is top n t l m s = s.1.3 ∙ sym (number_first s.0.0 s.1.1 top s.0.1 l m s.1.0 s.1.2) ∙ ap decimal (sym s.2)
 
+pub positive_most : (top n : ℕ) (t : List ℕ) → 9 ≤ top → positive top n t → n ≤ top
+positive_most top n t l s = let r = first_range s.0.0 s.1.0 in omega (arith, s.2, longer_most top (s.0.0 - 48) s.0.1 s.1.1 (omega (arith, r.1)) s.1.2)
+
+pub natural_most : (top n : ℕ) (t : List ℕ) → 9 ≤ top → natural top n t → n ≤ top
+natural_most top n t l s = elim s as (λ _. n ≤ top) [
+  | inl g ↦ omega (arith, g.2)
+  | inr g ↦ positive_most top n t l g
+]
+
 pub natural_is : (top n : ℕ) (t : List ℕ) → 9 ≤ top → top < 2 ^ 64 → natural top n t → t ≡ decimal n
 natural_is top n t l m s = elim s as (λ _. t ≡ decimal n) [
   | inl g ↦ g.1 ∙ sym (decimal_digit 0 (omega arith)) ∙ ap decimal (sym g.2)
