@@ -1,3 +1,5 @@
 pub mod Apart
 pub mod Composites
 pub mod Lines
+pub mod Respelled
+pub mod Same

@@ -2,3 +2,4 @@ pub mod Line
 pub mod Spelled
 pub mod Reader
 pub mod Rows
+pub mod Same
