@@ -1,0 +1,36 @@
+-- The pieces that lists are written in, one for each element.
+use Rattle.std.specs.Prelude.{ℕ, List, ◌∷◌, ◌++◌, codes, decimal}
+use Rattle.spec_lang.specs.Sorting.{Key}
+use Rattle.spec_lang.specs.Func.{Func}
+use Rattle.spec_lang.specs.Matcher.{Matcher}
+use Rattle.spec_syntax.specs.Spelled.{spelled_key, spelled_func, is_joined, is_choice, enclosed_if, spelled_matcher}
+use Rattle.gl_lines.specs.declared.named.Named.{Named}
+
+abbrev pub spaced_name : Named → List ℕ
+spaced_name n = 32 ∷ n.name
+
+abbrev pub name_behind_comma : Named → List ℕ
+name_behind_comma n = 44 ∷ n.name
+
+abbrev pub step_behind_dot : ℕ → List ℕ
+step_behind_dot i = 46 ∷ decimal i
+
+abbrev pub key_behind_comma : Key → List ℕ
+key_behind_comma key = codes ", " ++ spelled_key key
+
+abbrev pub func_behind_comma : Func → List ℕ
+func_behind_comma f = codes "," ++ spelled_func f
+
+-- a part of an `and`
+abbrev pub unit_text : Matcher → List ℕ
+unit_text m = enclosed_if (is_joined m) (spelled_matcher m)
+
+-- a part of an `or`
+abbrev pub choice_text : Matcher → List ℕ
+choice_text m = enclosed_if (is_choice m) (spelled_matcher m)
+
+abbrev pub unit_behind_and : Matcher → List ℕ
+unit_behind_and m = codes " and " ++ unit_text m
+
+abbrev pub choice_behind_or : Matcher → List ℕ
+choice_behind_or m = codes " or " ++ choice_text m
