@@ -4,6 +4,7 @@ use Rattle.spec_lang.specs.Sorting.{Key}
 use Rattle.spec_lang.specs.Func.{Func}
 use Rattle.spec_lang.specs.Matcher.{Matcher}
 use Rattle.spec_syntax.specs.Spelled.{spelled_key, spelled_func, is_joined, is_choice, enclosed_if, spelled_matcher}
+use Rattle.spec_lines.specs.Spelled.{spelled_with}
 use Rattle.gl_lines.specs.declared.named.Named.{Named}
 
 abbrev pub spaced_name : Named → List ℕ
@@ -34,3 +35,7 @@ unit_behind_and m = codes " and " ++ unit_text m
 
 abbrev pub choice_behind_or : Matcher → List ℕ
 choice_behind_or m = codes " or " ++ choice_text m
+
+-- a word, the names behind it, a space and what stands behind that
+abbrev pub with_tail : List ℕ → List Named → List ℕ → List ℕ
+with_tail w names tail = spelled_with w names ++ codes " " ++ tail

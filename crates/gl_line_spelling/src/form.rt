@@ -4,6 +4,7 @@ ghost use Rattle.std.specs.Prelude.{◌≡◌, ◌++◌, ◌∷◌, [], codes, d
 ghost use Rattle.spec_texts.specs.Value.{spelled_value, spelled_list};
 ghost use Rattle.spec_syntax.specs.Spelled.{spelled_path, spelled_order, spelled_bounds, spelled_func, spelled_matcher};
 ghost use Rattle.spec_lines.specs.Spelled.{spelled_with};
+ghost use Rattle.gl_line_spelling.specs.Pieces.{with_tail};
 
 use crate::func::add_func;
 use crate::matcher::add_matcher;
@@ -41,7 +42,7 @@ pub(crate) fn name_value(
     value: &Value,
     out: &mut Bytes,
 ) -> Result<(), Memory>
-    ensures { OnOk result (out.new ≡ out.old ++ (spelled_with word.now (list.now ∷ []) ++ codes " " ++ spelled_value value.now)) }
+    ensures { OnOk result (out.new ≡ out.old ++ with_tail word.now (list.now ∷ []) (spelled_value value.now)) }
 {
     one_name(word, list, out)?;
     out.push_all(b" ")?;
@@ -54,7 +55,7 @@ pub(crate) fn name_values(
     values: &Values,
     out: &mut Bytes,
 ) -> Result<(), Memory>
-    ensures { OnOk result (out.new ≡ out.old ++ (spelled_with word.now (list.now ∷ []) ++ codes " " ++ spelled_list values.now)) }
+    ensures { OnOk result (out.new ≡ out.old ++ with_tail word.now (list.now ∷ []) (spelled_list values.now)) }
 {
     let value = Value::items(values.copy()?);
     name_value(word, list, &value, out)
@@ -66,7 +67,7 @@ pub(crate) fn name_index(
     index: u32,
     out: &mut Bytes,
 ) -> Result<(), Memory>
-    ensures { OnOk result (out.new ≡ out.old ++ (spelled_with word.now (list.now ∷ []) ++ codes " " ++ decimal index)) }
+    ensures { OnOk result (out.new ≡ out.old ++ with_tail word.now (list.now ∷ []) (decimal index)) }
 {
     one_name(word, list, out)?;
     out.push_all(b" ")?;
@@ -81,7 +82,7 @@ pub(crate) fn name_index_value(
     out: &mut Bytes,
 ) -> Result<(), Memory>
     ensures { OnOk result
-        (out.new ≡ out.old ++ (spelled_with word.now (list.now ∷ []) ++ codes " " ++ decimal index ++ codes " " ++ spelled_value value.now)) }
+        (out.new ≡ out.old ++ with_tail word.now (list.now ∷ []) (decimal index ++ codes " " ++ spelled_value value.now)) }
 {
     name_index(word, list, index, out)?;
     out.push_all(b" ")?;
@@ -94,7 +95,7 @@ pub(crate) fn name_matcher(
     matcher: &Matcher,
     out: &mut Bytes,
 ) -> Result<(), Memory>
-    ensures { OnOk result (out.new ≡ out.old ++ (spelled_with word.now (list.now ∷ []) ++ codes " " ++ spelled_matcher matcher.now)) }
+    ensures { OnOk result (out.new ≡ out.old ++ with_tail word.now (list.now ∷ []) (spelled_matcher matcher.now)) }
 {
     one_name(word, list, out)?;
     out.push_all(b" ")?;
@@ -107,7 +108,7 @@ pub(crate) fn name_order(
     order: &Order,
     out: &mut Bytes,
 ) -> Result<(), Memory>
-    ensures { OnOk result (out.new ≡ out.old ++ (spelled_with word.now (list.now ∷ []) ++ codes " " ++ spelled_order order.now)) }
+    ensures { OnOk result (out.new ≡ out.old ++ with_tail word.now (list.now ∷ []) (spelled_order order.now)) }
 {
     one_name(word, list, out)?;
     out.push_all(b" ")?;
@@ -120,7 +121,7 @@ pub(crate) fn name_bounds(
     bounds: Bounds,
     out: &mut Bytes,
 ) -> Result<(), Memory>
-    ensures { OnOk result (out.new ≡ out.old ++ (spelled_with word.now (list.now ∷ []) ++ codes " " ++ spelled_bounds bounds)) }
+    ensures { OnOk result (out.new ≡ out.old ++ with_tail word.now (list.now ∷ []) (spelled_bounds bounds)) }
 {
     one_name(word, list, out)?;
     out.push_all(b" ")?;
@@ -133,7 +134,7 @@ pub(crate) fn name_func(
     func: &Func,
     out: &mut Bytes,
 ) -> Result<(), Memory>
-    ensures { OnOk result (out.new ≡ out.old ++ (spelled_with word.now (list.now ∷ []) ++ codes " " ++ spelled_func func.now)) }
+    ensures { OnOk result (out.new ≡ out.old ++ with_tail word.now (list.now ∷ []) (spelled_func func.now)) }
 {
     one_name(word, list, out)?;
     out.push_all(b" ")?;
@@ -147,7 +148,7 @@ pub(crate) fn names_matcher(
     matcher: &Matcher,
     out: &mut Bytes,
 ) -> Result<(), Memory>
-    ensures { OnOk result (out.new ≡ out.old ++ (spelled_with word.now (name.now ∷ input.now ∷ []) ++ codes " " ++ spelled_matcher matcher.now)) }
+    ensures { OnOk result (out.new ≡ out.old ++ with_tail word.now (name.now ∷ input.now ∷ []) (spelled_matcher matcher.now)) }
 {
     two_names(word, name, input, out)?;
     out.push_all(b" ")?;
@@ -161,7 +162,7 @@ pub(crate) fn names_order(
     order: &Order,
     out: &mut Bytes,
 ) -> Result<(), Memory>
-    ensures { OnOk result (out.new ≡ out.old ++ (spelled_with word.now (name.now ∷ input.now ∷ []) ++ codes " " ++ spelled_order order.now)) }
+    ensures { OnOk result (out.new ≡ out.old ++ with_tail word.now (name.now ∷ input.now ∷ []) (spelled_order order.now)) }
 {
     two_names(word, name, input, out)?;
     out.push_all(b" ")?;
@@ -175,7 +176,7 @@ pub(crate) fn names_bounds(
     bounds: Bounds,
     out: &mut Bytes,
 ) -> Result<(), Memory>
-    ensures { OnOk result (out.new ≡ out.old ++ (spelled_with word.now (name.now ∷ input.now ∷ []) ++ codes " " ++ spelled_bounds bounds)) }
+    ensures { OnOk result (out.new ≡ out.old ++ with_tail word.now (name.now ∷ input.now ∷ []) (spelled_bounds bounds)) }
 {
     two_names(word, name, input, out)?;
     out.push_all(b" ")?;
@@ -189,7 +190,7 @@ pub(crate) fn names_func(
     func: &Func,
     out: &mut Bytes,
 ) -> Result<(), Memory>
-    ensures { OnOk result (out.new ≡ out.old ++ (spelled_with word.now (name.now ∷ input.now ∷ []) ++ codes " " ++ spelled_func func.now)) }
+    ensures { OnOk result (out.new ≡ out.old ++ with_tail word.now (name.now ∷ input.now ∷ []) (spelled_func func.now)) }
 {
     two_names(word, name, input, out)?;
     out.push_all(b" ")?;
@@ -203,7 +204,7 @@ pub(crate) fn names_path(
     path: &Path,
     out: &mut Bytes,
 ) -> Result<(), Memory>
-    ensures { OnOk result (out.new ≡ out.old ++ (spelled_with word.now (name.now ∷ input.now ∷ []) ++ codes " " ++ spelled_path path.now)) }
+    ensures { OnOk result (out.new ≡ out.old ++ with_tail word.now (name.now ∷ input.now ∷ []) (spelled_path path.now)) }
 {
     two_names(word, name, input, out)?;
     out.push_all(b" ")?;

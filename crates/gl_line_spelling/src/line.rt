@@ -29,8 +29,8 @@ pub fn write_line(alloc: Global, line: &Line, out: &mut Bytes) -> Result<(), Mem
     out.push_all(text.as_slice())
 }
 
-/// Adds the line in its one spelling, with no line feed. It recurses once a level of nesting. Where memory runs out part
-/// of it may be added.
+/// Adds the line in its one spelling, with no line feed. It recurses once a level of nesting. Where memory runs out
+/// part of it may be added.
 pub fn add_line(line: &Line, out: &mut Bytes) -> Result<(), Memory>
     ensures { OnOk result (out.new ≡ out.old ++ spelled_line line.now) }
 {

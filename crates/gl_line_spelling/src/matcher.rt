@@ -9,8 +9,8 @@ use crate::path::add_path;
 use gl_lang::{Matcher, MatcherShape, Path, Test};
 use gl_syntax::{Bytes, Memory, Value, add_value};
 
-/// Adds the matcher, with the parentheses that it needs and no others. It recurses once a level of nesting. Where memory
-/// runs out part of it may be added.
+/// Adds the matcher, with the parentheses that it needs and no others. It recurses once a level of nesting. Where
+/// memory runs out part of it may be added.
 #[cycle(matcher)]
 pub fn add_matcher(matcher: &Matcher, out: &mut Bytes) -> Result<(), Memory>
     ensures { OnOk result (out.new ≡ out.old ++ spelled_matcher matcher.now) }
