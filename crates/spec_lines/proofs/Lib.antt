@@ -3,3 +3,4 @@ pub mod Composites
 pub mod Lines
 pub mod Respelled
 pub mod Same
+pub mod Within

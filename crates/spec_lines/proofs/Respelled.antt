@@ -53,7 +53,7 @@ as_value vs t s = inl (vs, s, refl)
 again_values : Again (bracketed (value 63)) spelled_list
 again_values = again (bracketed (value 63)) spelled_list (λ vs t s. value_is 64 (items_of vs) t (as_value vs t s))
 
-abbrev spelled_index_value : ℕ × Tree → List ℕ
+abbrev pub spelled_index_value : ℕ × Tree → List ℕ
 spelled_index_value iv = decimal iv.0 ++ codes " " ++ spelled_value iv.1
 
 again_index_value : Again index_value spelled_index_value
@@ -130,7 +130,7 @@ both_again w column k S spell h e =
       ap spelled_line s.2 ∙ e (at column n) (at (column + length n + 1) m) a,
     ))
 
-index_value_text : (w n d v : List ℕ) → w ++ ((((n ++ codes " ") ++ d) ++ codes " ") ++ v) ≡ w ++ ((n ++ codes " ") ++ ((d ++ codes " ") ++ v))
+pub index_value_text : (w n d v : List ℕ) → w ++ ((((n ++ codes " ") ++ d) ++ codes " ") ++ v) ≡ w ++ ((n ++ codes " ") ++ ((d ++ codes " ") ++ v))
 index_value_text w n d v = ap (λ x. w ++ x) (ap (λ x. x ++ v) (append_assoc (n ++ codes " ") d (codes " ")) ∙ append_assoc (n ++ codes " ") (d ++ codes " ") v)
 
 -- a name is spelled as it stands
@@ -165,7 +165,7 @@ composite_again = again_behind (codes "composite ") (formed (11, composed)) (λ 
         ∙ ap (λ x. spelled_names (in_row (11 + length c.0 + 1) c.1.0) ++ x) (may_is (past (11 + length c.0) c.1.0 + 5) c.1.1 inside.1 inside.3))
         ∙ sym (append_assoc c.0 (spelled_names (in_row (11 + length c.0 + 1) c.1.0)) (spelled_may (in_row (past (11 + length c.0) c.1.0 + 5) c.1.1)))
 
-abbrev spelled_echo : Bool → List ℕ
+abbrev pub spelled_echo : Bool → List ℕ
 spelled_echo e = if e then codes " echo" else []
 
 echo_is : HasOne (optional false echo) spelled_echo
@@ -203,25 +203,26 @@ endings_are column e t s = elim s as (λ _. t ≡ spelled_ending column e) [
   | inr g ↦ g.1 ∙ ap (spelled_ending column) (sym g.2)
 ]
 
+-- the text of a listener, as it is spelled and as its grammar cuts it
+pub listen_text : (n m a e : List ℕ) → n ++ codes " on " ++ (m ++ (a ++ e)) ≡ ((((n ++ []) ++ codes " on") ++ 32 ∷ (m ++ [])) ++ a) ++ e
+listen_text n m a e =
+    append_assoc n (codes " on ") (m ++ (a ++ e))
+    ∙ sym (
+    ap (λ x. (((x ++ codes " on") ++ 32 ∷ (m ++ [])) ++ a) ++ e) (append-nil n)
+    ∙ ap (λ x. (((n ++ codes " on") ++ 32 ∷ x) ++ a) ++ e) (append-nil m)
+    ∙ append_assoc ((n ++ codes " on") ++ 32 ∷ m) a e
+    ∙ append_assoc (n ++ codes " on") (32 ∷ m) (a ++ e)
+    ∙ append_assoc n (codes " on") (32 ∷ (m ++ (a ++ e)))
+    )
+
 listen_again : IsAgain (codes "listen ", (8, listened))
 listen_again = again_behind (codes "listen ") (formed (8, listened)) (λ l t s. (t, s, ap spelled_line s.2 ∙ ap (λ x. codes "listen " ++ x) (sym (whole s.0 t s.1))))
   where
-    joined : (n m a e : List ℕ) → n ++ codes " on " ++ (m ++ (a ++ e)) ≡ ((((n ++ []) ++ codes " on") ++ 32 ∷ (m ++ [])) ++ a) ++ e
-    joined n m a e =
-        append_assoc n (codes " on ") (m ++ (a ++ e))
-        ∙ sym (
-        ap (λ x. (((x ++ codes " on") ++ 32 ∷ (m ++ [])) ++ a) ++ e) (append-nil n)
-        ∙ ap (λ x. (((n ++ codes " on") ++ 32 ∷ x) ++ a) ++ e) (append-nil m)
-        ∙ append_assoc ((n ++ codes " on") ++ 32 ∷ m) a e
-        ∙ append_assoc (n ++ codes " on") (32 ∷ m) (a ++ e)
-        ∙ append_assoc n (codes " on") (32 ∷ (m ++ (a ++ e)))
-        )
-
     whole : (c : List ℕ × (List ℕ × (List (List ℕ) × Bool))) (t : List ℕ) → apart name (codes " on ") (both name endings) c t → t ≡ ((((c.0 ++ []) ++ codes " on") ++ 32 ∷ (c.1.0 ++ [])) ++ spelled_after (in_row (8 + length c.0 + 4 + length c.1.0 + 7) c.1.1.0)) ++ spelled_echo c.1.1.1
     whole c t s =
         let column = 8 + length c.0 + 4 + length c.1.0 + 7 in
         apart_is name (codes " on ") (both name endings) (λ n. n) (λ x. x.0 ++ spelled_ending column x.1) name_is (λ x u r. r.4 ∙ ap (λ y. y ++ r.1) r.2.1 ∙ ap (λ y. x.0 ++ y) (endings_are column x.1 r.1 r.3)) c t s
-        ∙ joined c.0 c.1.0 (spelled_after (in_row column c.1.1.0)) (spelled_echo c.1.1.1)
+        ∙ listen_text c.0 c.1.0 (spelled_after (in_row column c.1.1.0)) (spelled_echo c.1.1.1)
 
 rows_again : AllByRecursion IsAgain line_words
 rows_again = (

@@ -3,3 +3,4 @@ pub mod Spelled
 pub mod Reader
 pub mod Rows
 pub mod Same
+pub mod Within

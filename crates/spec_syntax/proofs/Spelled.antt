@@ -7,12 +7,12 @@ use Rattle.std.proofs.lemmas.Bool.{cases_eq, cases_Bool, cases_lt, false≢true}
 use Rattle.std.proofs.lemmas.Bool.Decides.{nat_tests}
 use Rattle.std.proofs.lemmas.Fmt.{decimal_digit, decimal_step}
 use Rattle.std.proofs.lemmas.Grind.{flat_map-append}
-use Rattle.spec_value.specs.Tree.{Tree, num, text, items, Trees, none, more, trees, list, nesting, trees_nesting, trees-list}
+use Rattle.spec_value.specs.Tree.{Tree, num, text, items, Trees, none, more, trees, list, nesting, trees_nesting, list-trees, trees-list}
 use Rattle.spec_grammar.specs.Grammar.{optional, after, many, listed}
-use Rattle.spec_texts.specs.Value.{hex_digit, spelled_byte, spelled_value, spelled_elements, spelled_others}
+use Rattle.spec_texts.specs.Value.{hex_digit, spelled_byte, spelled_value, spelled_elements, spelled_others, spelled_list}
 use Rattle.spec_syntax.specs.Number.{between, is_digit, longer, positive, natural, number}
 use Rattle.spec_syntax.specs.Text.{continued, is_lead, behind_lead, plain, is_hex, hex_value, second_hex, hex_byte, escape, char, joined, texts}
-use Rattle.spec_syntax.specs.Value.{list_of, leaf, value, any_value}
+use Rattle.spec_syntax.specs.Value.{bracketed, list_of, leaf, value, any_value}
 use Rattle.spec_syntax.specs.Proper.{IsProper, AreProper}
 use Rattle.spec_syntax.proofs.Canonical.{spelled, plain_is, control_byte}
 use Rattle.spec_syntax.proofs.Utf8.{one, two, three, four}
@@ -35,7 +35,7 @@ first_of : (n : ℕ) → 0 < n → n < 10 → between 49 57 (48 + n) ≡ true
 first_of n l h = grind (arith, nat_tests)
 
 -- a number from 1 on is spelled in decimal
-positive_decimal : (most top n : ℕ) → n ≤ most → 0 < n → n ≤ top → top < 2 ^ 64 → positive top n (decimal n)
+pub positive_decimal : (most top n : ℕ) → n ≤ most → 0 < n → n ≤ top → top < 2 ^ 64 → positive top n (decimal n)
 positive_decimal zero top n h l m t = absurd (omega arith)
 positive_decimal (suc most) top n h l m t = elim (cases_lt n 10) as (λ _. positive top n (decimal n)) [
   | inl small ↦
@@ -301,6 +301,13 @@ mutual
 -- a value that nests no deeper is spelled within that depth
 pub value_spelled : (t : Tree) → IsProper t → (depth : ℕ) → nesting t ≤ depth → value depth t (spelled_value t)
 value_spelled t h depth l = value_at t h depth l
+
+-- so are the values of a list
+pub values_spelled : (vs : List Tree) → AreProper (trees vs) → (depth : ℕ) → trees_nesting (trees vs) ≤ depth → bracketed (value depth) vs (spelled_list vs)
+values_spelled vs h depth l =
+    let inside : optional [] (listed (value depth) (codes ",")) vs (spelled_elements (trees vs)) =
+    subst (λ us. optional [] (listed (value depth) (codes ",")) us (spelled_elements (trees vs))) (list-trees vs) (elements_at (trees vs) h depth l) in
+    ((tt, vs), (91 ∷ [], spelled_elements (trees vs) ++ 93 ∷ [], refl, ((vs, tt), (spelled_elements (trees vs), 93 ∷ [], inside, refl, refl), refl), refl), refl)
 
 pub any_spelled : (t : Tree) → IsProper t → any_value t (spelled_value t)
 any_spelled t h = (nesting t, value_at t h (nesting t) (omega arith))
