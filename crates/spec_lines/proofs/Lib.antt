@@ -1,6 +1,6 @@
 pub mod Apart
 pub mod Composites
 pub mod Lines
-pub mod Respelled
+pub mod Placed
 pub mod Same
 pub mod Within

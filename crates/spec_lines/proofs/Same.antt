@@ -8,7 +8,7 @@ use Rattle.spec_lines.specs.Line.{line_of_text}
 use Rattle.spec_lines.specs.Spelled.{spelled_names, spelled_may, spelled_others, spelled_after, spelled_line}
 use Rattle.spec_lines.specs.Same.{all_moved, unplaced, AreSame, ReadsBack}
 use Rattle.spec_lines.proofs.Lines.{one_line}
-use Rattle.spec_lines.proofs.Respelled.{line_again}
+use Rattle.spec_lines.proofs.Placed.{line_again}
 
 names_moved : (ns : List Named) → spelled_names (all_moved ns) ≡ spelled_names ns
 names_moved [] = refl

@@ -1,6 +1,6 @@
 -- The one spelling of a line within the limits spells it, with its names in their columns, and nothing else.
-use Rattle.std.proofs.Common.{◌≡◌, ℕ, zero, suc, ◌+◌, ◌<◌, ◌≤◌, Bool, true, false, List, [], ◌∷◌, ◌++◌, length, refl, sym, ◌∙◌, subst, inl, inr, arith, append_assoc, append-nil, codes}
-use Rattle.std.specs.Prelude.{IsTrue, decimal}
+use Rattle.std.proofs.Common.{◌≡◌, ℕ, zero, suc, ◌+◌, ◌<◌, ◌≤◌, Bool, true, false, List, [], ◌∷◌, ◌++◌, length, refl, sym, ap, ◌∙◌, subst, inl, inr, arith, append_assoc, append-nil, codes}
+use Rattle.std.specs.Prelude.{IsTrue, decimal, if◌then◌else◌}
 use Rattle.std.specs.List.{AllByRecursion}
 use Rattle.spec_value.specs.Name.{is_name}
 use Rattle.spec_value.specs.Tree.{Tree}
@@ -24,7 +24,6 @@ use Rattle.spec_lines.specs.Line.{at, Form, bare, limited, one_name, two_names, 
 use Rattle.spec_lines.specs.Spelled.{spelled_names, spelled_may, spelled_others, spelled_after, spelled_line}
 use Rattle.spec_lines.specs.Within.{IsNamed, IsLiteral, AreLiterals, IsShort, IsWithin, names_of, placed}
 use Rattle.spec_lines.proofs.Lines.{one_line}
-use Rattle.spec_lines.proofs.Respelled.{spelled_index_value, index_value_text, spelled_echo, listen_text}
 
 value_in : (v : Tree) → IsLiteral v → value 64 v (spelled_value v)
 value_in v h = value_spelled v h.0 64 h.1
@@ -82,6 +81,12 @@ both_in w column k S spell n m a h g s =
       refl,
     )
 
+abbrev spelled_index_value : ℕ × Tree → List ℕ
+spelled_index_value iv = decimal iv.0 ++ codes " " ++ spelled_value iv.1
+
+index_value_text : (w n d v : List ℕ) → w ++ ((((n ++ codes " ") ++ d) ++ codes " ") ++ v) ≡ w ++ ((n ++ codes " ") ++ ((d ++ codes " ") ++ v))
+index_value_text w n d v = ap (λ x. w ++ x) (ap (λ x. x ++ v) (append_assoc (n ++ codes " ") d (codes " ")) ∙ append_assoc (n ++ codes " ") (d ++ codes " ") v)
+
 index_value_in : (w : List ℕ) (column : ℕ) (k : Named → ℕ → Tree → Line) (n : List ℕ) (index : ℕ) (v : Tree) → IsTrue (is_name n) → IsShort index → IsLiteral v
     → after w (formed (column, name_index_value k)) (k (at column n) index v) (w ++ (((((n ++ []) ++ codes " ") ++ decimal index) ++ codes " ") ++ spelled_value v))
 index_value_in w column k n index v h g s =
@@ -106,6 +111,9 @@ others_in : (ns : List Named) → AllByRecursion IsNamed ns → many (after (cod
 others_in [] h = refl
 others_in (n ∷ ns) h = (44 ∷ n.name, spelled_others ns, behind_in (codes ",") name n.name n.name (h.0, refl), others_in ns h.1, refl)
 
+abbrev spelled_echo : Bool → List ℕ
+spelled_echo e = if e then codes " echo" else []
+
 echo_in : (e : Bool) → optional false echo e (spelled_echo e)
 echo_in true = inl (tt, refl, refl)
 echo_in false = inr (tt, refl, refl)
@@ -116,6 +124,18 @@ endings_in [] true h = inl (inr (inl (behind_in (codes " echo") (ending only_ech
 endings_in (n ∷ ns) e h =
     inl (inl (behind_in (codes " after ") (ending after_names) (n.name ∷ names_of ns, e) ((n.name ++ spelled_others ns) ++ spelled_echo e)
     (n.name ++ spelled_others ns, spelled_echo e, ((n.name, names_of ns), (n.name, spelled_others ns, (h.0, refl), others_in ns h.1, refl), refl), echo_in e, refl)))
+
+-- the text of a listener, as it is spelled and as its grammar cuts it
+listen_text : (n m a e : List ℕ) → n ++ codes " on " ++ (m ++ (a ++ e)) ≡ ((((n ++ []) ++ codes " on") ++ 32 ∷ (m ++ [])) ++ a) ++ e
+listen_text n m a e =
+    append_assoc n (codes " on ") (m ++ (a ++ e))
+    ∙ sym (
+    ap (λ x. (((x ++ codes " on") ++ 32 ∷ (m ++ [])) ++ a) ++ e) (append-nil n)
+    ∙ ap (λ x. (((n ++ codes " on") ++ 32 ∷ x) ++ a) ++ e) (append-nil m)
+    ∙ append_assoc ((n ++ codes " on") ++ 32 ∷ m) a e
+    ∙ append_assoc (n ++ codes " on") (32 ∷ m) (a ++ e)
+    ∙ append_assoc n (codes " on") (32 ∷ (m ++ (a ++ e)))
+    )
 
 listen_in : (n m : Named) (others : List Named) (e : Bool) → IsNamed n → IsNamed m → AllByRecursion IsNamed others → after (codes "listen ") (formed (8, listened)) (placed (line.Listen n m others e)) (spelled_line (line.Listen n m others e))
 listen_in n m others e h g f =
@@ -132,7 +152,7 @@ listen_in n m others e h g f =
       refl,
     )
 
-within_spelled : (l : Line) → IsWithin l → line_of_text (placed l) (spelled_line l)
+pub within_spelled : (l : Line) → IsWithin l → line_of_text (placed l) (spelled_line l)
 within_spelled (line.Limit limit) h = in_table line_words 0 (codes "limit ", (7, limited)) refl (line.Limit limit) (spelled_line (line.Limit limit)) (limit_in limit h.0 h.1)
 within_spelled (line.Source n) h = in_table line_words 1 (codes "source ", (8, one_name line.Source)) refl (line.Source (at 8 n.name)) (spelled_line (line.Source n)) (one_in (codes "source ") 8 line.Source n.name h)
 within_spelled (line.Row n x) h = in_table line_words 2 (codes "row ", (5, name_value line.Row)) refl (line.Row (at 5 n.name) x) (spelled_line (line.Row n x)) (with_in (codes "row ") 5 line.Row (value 64) spelled_value n.name x h.0 (value_in x h.1))

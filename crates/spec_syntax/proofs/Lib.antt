@@ -15,7 +15,6 @@ pub mod Matchers
 pub mod Names
 pub mod Spelled
 pub mod Within
-pub mod OneSpelling
 pub mod Parentheses
 pub mod Limits
 pub mod Nestings

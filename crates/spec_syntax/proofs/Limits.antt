@@ -12,14 +12,14 @@ use Rattle.spec_lang.specs.Func.{Func, funcs}
 use Rattle.spec_syntax.specs.Number.{negative, number}
 use Rattle.spec_syntax.specs.Path.{path_index, path, key, order}
 use Rattle.spec_syntax.specs.Bounds.{two_numbers, bounds}
-use Rattle.spec_syntax.specs.Value.{leaf, value}
+use Rattle.spec_syntax.specs.Value.{leaf, value, bracketed}
 use Rattle.spec_syntax.specs.Func.{flat_func, func}
 use Rattle.spec_syntax.specs.Proper.{IsProper, AreProper, IsPath, IsOrder, IsBounds, IsFunc, AreFuncs}
 use Rattle.spec_syntax.proofs.Spellings.{positive_most, natural_most}
 use Rattle.spec_syntax.proofs.Utf8.{texts_utf8}
 
 -- what holds of things behind a word, and ahead of one
-of_after : {A : Type 0} (P : A → Type 0) (w : List ℕ) (S : Grammar A) → ((a : A) (t : List ℕ) → S a t → P a) → (a : A) (t : List ℕ) → after w S a t → P a
+pub of_after : {A : Type 0} (P : A → Type 0) (w : List ℕ) (S : Grammar A) → ((a : A) (t : List ℕ) → S a t → P a) → (a : A) (t : List ℕ) → after w S a t → P a
 of_after P w S h a t s = subst P (sym s.2) (h s.0.1 s.1.1 s.1.3)
 
 of_closed : {A : Type 0} (P : A → Type 0) (S : Grammar A) (w : List ℕ) → ((a : A) (t : List ℕ) → S a t → P a) → (a : A) (t : List ℕ) → closed S w a t → P a
@@ -67,18 +67,25 @@ elements_within depth V h vs t s = elim s as (λ _. AreWithin depth vs) [
   | inr g ↦ subst (AreWithin depth) (sym g.2) (tt, omega arith)
 ]
 
+bracketed_within : (depth : ℕ) (V : Grammar Tree) → ((v : Tree) (t : List ℕ) → V v t → IsWithin depth v) → (vs : List Tree) (t : List ℕ) → bracketed V vs t → AreWithin depth vs
+bracketed_within depth V h =
+    of_after (AreWithin depth) (codes "[") (closed (optional [] (listed V (codes ","))) (codes "]"))
+    (of_closed (AreWithin depth) (optional [] (listed V (codes ","))) (codes "]") (elements_within depth V h))
+
 -- a value that is spelled is one of the code's, and nests no deeper
 pub value_within : (depth : ℕ) (v : Tree) (t : List ℕ) → value depth v t → IsProper v × (nesting v ≤ depth)
 unfolding value
 value_within zero v t s = leaf_within zero v t s
 value_within (suc depth) v t s = elim s as (λ _. IsWithin (suc depth) v) [
   | inl g ↦
-      let inside =
-      of_after (AreWithin depth) (codes "[") (closed (optional [] (listed (value depth) (codes ","))) (codes "]"))
-      (of_closed (AreWithin depth) (optional [] (listed (value depth) (codes ","))) (codes "]") (elements_within depth (value depth) (value_within depth))) g.0 t g.1 in
+      let inside = bracketed_within depth (value depth) (value_within depth) g.0 t g.1 in
       subst (IsWithin (suc depth)) (sym g.2) (inside.0, omega (arith, inside.1))
   | inr g ↦ leaf_within (suc depth) v t g
 ]
+
+-- so are the values of a list
+pub values_within : (depth : ℕ) (vs : List Tree) (t : List ℕ) → bracketed (value depth) vs t → AreProper (trees vs) × (trees_nesting (trees vs) ≤ depth)
+values_within depth = bracketed_within depth (value depth) (value_within depth)
 
 index_within : (i : ℕ) (t : List ℕ) → path_index i t → i ≤ 65535
 index_within i t s = natural_most 65535 i t (omega arith) s

@@ -7,9 +7,8 @@ use Rattle.spec_lang.specs.declared.Test.{Test}
 use Rattle.spec_lang.specs.Matcher as meant
 use Rattle.spec_syntax.specs.Matcher.{all_of, any_of, Joint, conjunction, disjunction, up_to_or, behind_or, joint_words, joined_unit, chain, test_words, tested, comparison, formed, negated, flat_words, unit_words, unit, matcher}
 use Rattle.spec_syntax.specs.Proper.{IsProper, IsMatcher, AreMatchers, deeper_if, matcher_nesting, units_nesting, choices_nesting}
-use Rattle.spec_syntax.specs.Spelled.{is_joined, is_choice, spelled_matcher}
+use Rattle.spec_syntax.specs.Spelled.{is_joined, is_choice}
 use Rattle.spec_syntax.proofs.Limits.{path_within, value_within}
-use Rattle.spec_syntax.proofs.Parentheses.{matcher_spelled}
 
 -- a matcher nested at most so deep where it stands alone, as a unit, and as a part of an `or`
 abbrev IsAlone : ℕ → meant.Matcher → Type 0
@@ -163,7 +162,3 @@ unit_within (suc depth) m t s = elim s as (λ _. IsUnit (suc depth) m) [
 
 pub matcher_within : (m : meant.Matcher) (t : List ℕ) → matcher m t → IsMatcher m × (matcher_nesting m ≤ 8)
 matcher_within m t s = chain_within 8 (unit 8) (unit_within 8) m t s
-
--- whatever spells a matcher, its one spelling spells it too
-pub matcher_respelled : (m : meant.Matcher) (t : List ℕ) → matcher m t → matcher m (spelled_matcher m)
-matcher_respelled m t s = let within = matcher_within m t s in matcher_spelled m within.0 within.1

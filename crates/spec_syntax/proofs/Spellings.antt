@@ -63,7 +63,7 @@ natural_is top n t l m s = elim s as (λ _. t ≡ decimal n) [
   | inr g ↦ positive_is top n t l m g
 ]
 
-positive_least : (top n : ℕ) (t : List ℕ) → positive top n t → 0 < n
+pub positive_least : (top n : ℕ) (t : List ℕ) → positive top n t → 0 < n
 positive_least top n t s = let r = first_range s.0.0 s.1.0 in omega (arith, s.2, longer_least top (s.0.0 - 48) s.0.1 s.1.1 s.1.2)
   where
     longer_least : (top a n : ℕ) (ds : List ℕ) → longer top a n ds → a ≤ n
