@@ -2,7 +2,8 @@
 
 ghost use Rattle.std.specs.Prelude.{◌≡◌, ◌++◌, OnOk, OnErr};
 ghost use Rattle.spec_lines.specs.Spelled.{spelled_line};
-ghost use Rattle.spec_lines.specs.Same.{ReadsBack};
+ghost use Rattle.spec_lines.specs.Same.{ReadsBack, SpellsSame};
+ghost use Rattle.spec_lines.specs.Within.{IsWithin};
 ghost use Rattle.gl_lines.specs.declared.line.Line.TheVariants as meant;
 ghost use Rattle.gl_line_spelling.specs.Groups.{IsOverOrCommand, IsCommand};
 
@@ -17,11 +18,13 @@ use gl_syntax::{Bytes, Memory, add_number};
 use std::alloc::Global;
 
 /// Adds the line in its one spelling, with no line feed; where memory runs out the bytes are as before. It takes memory
-/// for the spelling beside them while it writes. What is added reads back as the line, with its names in the columns
-/// where they then stand, whatever text it was read from.
+/// for the spelling beside them while it writes. What is added of a line that was read from any text reads back as that
+/// line, columns and all; so does any line within the limits of the language, with its names in the columns where they
+/// then stand.
 pub fn write_line(alloc: Global, line: &Line, out: &mut Bytes) -> Result<(), Memory>
     ensures ok { OnOk result (out.new ≡ out.old ++ spelled_line line.now) }
     ensures back { ReadsBack line.now }
+    ensures within { IsWithin line.now → SpellsSame line.now }
     ensures err { OnErr result (out.new ≡ out.old) }
 {
     let mut text = Bytes::new(alloc);

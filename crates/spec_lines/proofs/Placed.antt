@@ -20,7 +20,8 @@ use Rattle.gl_lines.specs.declared.line.Line.{Line}
 use Rattle.gl_lines.specs.declared.line.Line.TheVariants as line
 use Rattle.spec_lines.specs.Line.{at, in_row, past, Form, bare, limited, one_name, two_names, with_name, with_names, index_value, may_part, composite_part, composite_line, composed, after_names, only_echo, ending, endings, listen_line, listened, formed, row, line_words, line_of_text}
 use Rattle.spec_lines.specs.Spelled.{spelled_line}
-use Rattle.spec_lines.specs.Within.{IsNamed, IsLiteral, AreLiterals, IsRule, IsShort, IsWithin, names_of, placed}
+use Rattle.spec_lines.specs.Within.{IsNamed, IsLiteral, AreLiterals, IsRule, IsShort, IsWithin}
+use Rattle.spec_lines.proofs.Columns.{names_of, placed}
 use Rattle.spec_lines.proofs.Within.{within_spelled}
 
 abbrev IsPlaced : Line → Type 0

@@ -5,7 +5,6 @@ use Rattle.std.specs.List.{AllByRecursion}
 use Rattle.spec_value.specs.Name.{is_name}
 use Rattle.spec_value.specs.Tree.{Tree}
 use Rattle.spec_grammar.specs.Grammar.{Grammar, after, optional, many, words}
-use Rattle.spec_grammar.specs.Language.{Spell}
 use Rattle.spec_texts.specs.Value.{spelled_value, spelled_list}
 use Rattle.spec_syntax.specs.Value.{value, bracketed}
 use Rattle.spec_syntax.specs.Name.{name}
@@ -22,7 +21,9 @@ use Rattle.gl_lines.specs.declared.line.Line.{Line}
 use Rattle.gl_lines.specs.declared.line.Line.TheVariants as line
 use Rattle.spec_lines.specs.Line.{at, Form, bare, limited, one_name, two_names, name_value, name_values, name_matcher, name_order, name_bounds, name_func, name_index, name_index_value, names_matcher, names_order, names_bounds, names_func, names_path, with_name, with_names, index_value, members, may_part, composed, after_names, only_echo, echo, ending, endings, listened, formed, line_words, line_of_text}
 use Rattle.spec_lines.specs.Spelled.{spelled_names, spelled_may, spelled_others, spelled_after, spelled_line}
-use Rattle.spec_lines.specs.Within.{IsNamed, IsLiteral, AreLiterals, IsShort, IsWithin, names_of, placed}
+use Rattle.spec_lines.specs.Same.{SpellsSame}
+use Rattle.spec_lines.specs.Within.{IsNamed, IsLiteral, AreLiterals, IsShort, IsWithin}
+use Rattle.spec_lines.proofs.Columns.{names_of, placed, placed_same}
 use Rattle.spec_lines.proofs.Lines.{one_line}
 
 value_in : (v : Tree) → IsLiteral v → value 64 v (spelled_value v)
@@ -191,7 +192,7 @@ within_spelled (line.Freeze n) h = in_table line_words 34 (codes "freeze ", (8, 
 within_spelled (line.Thaw n) h = in_table line_words 35 (codes "thaw ", (6, one_name line.Thaw)) refl (line.Thaw (at 6 n.name)) (spelled_line (line.Thaw n)) (one_in (codes "thaw ") 6 line.Thaw n.name h)
 within_spelled (line.Show n) h = in_table line_words 36 (codes "show ", (6, one_name line.Show)) refl (line.Show (at 6 n.name)) (spelled_line (line.Show n)) (one_in (codes "show ") 6 line.Show n.name h)
 
-pub within_back : (l : Line) → IsWithin l → Spell line_of_text (spelled_line l) (placed l)
+pub within_back : (l : Line) → IsWithin l → SpellsSame l
 within_back l h =
     let spelled : line_of_text (placed l) (spelled_line l) = within_spelled l h in
-    record { spelled = spelled; alone = λ m s. one_line (spelled_line l) m (placed l) s spelled }
+    (placed l, placed_same l, record { spelled = spelled; alone = λ m s. one_line (spelled_line l) m (placed l) s spelled })

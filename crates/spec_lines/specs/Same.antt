@@ -66,3 +66,7 @@ AreSame l k = unplaced l ≡ unplaced k
 -- The one spelling of a line spells the same line, with its names in their columns, where any bytes spell it, and nothing else.
 abbrev pub ReadsBack : Line → Type 0
 ReadsBack l = (k : Line) → IsLine k → AreSame l k → Spell line_of_text (spelled_line l) k
+
+-- The one spelling of a line spells the same line, in some columns, and nothing else.
+abbrev pub SpellsSame : Line → Type 0
+SpellsSame l = (k : Line) × AreSame k l × Spell line_of_text (spelled_line l) k

@@ -5,9 +5,11 @@ use Rattle.spec_grammar.specs.Reader.{read, fault, whole}
 use Rattle.spec_lang.specs.declared.Bounds.TheVariants.{Tail}
 use Rattle.spec_lang.specs.declared.Test.TheVariants.{Eq, Lt}
 use Rattle.spec_lang.specs.Func.{at_path, total, sum, list, funcs}
-use Rattle.spec_lang.specs.Matcher.{all, is, negation, both, either, matchers}
+use Rattle.spec_lang.specs.Matcher.{all, nothing, is, negation, both, either, matchers}
 use Rattle.spec_syntax.specs.LanguageReader.{read_path, read_order, read_bounds, read_func, read_unit, read_matcher}
 use Rattle.spec_syntax.specs.ValueReader.{read_nested}
+use Rattle.spec_syntax.specs.Proper.{matcher_nesting}
+use Rattle.spec_syntax.specs.Spelled.{spelled_matcher}
 
 a_path : whole (read_path (codes ".0.65535")) ≡ read (0 ∷ 65535 ∷ [])
 a_path = refl
@@ -46,3 +48,17 @@ half_joint = refl
 ninth_not : whole (read_matcher (codes "not not not not not not not not not all")) ≡ fault 5
 unfolding read_unit
 ninth_not = refl
+
+-- parentheses stand where they are needed, and nest one deeper, as each `not` does
+needed : spelled_matcher (both (matchers (either (matchers (all ∷ nothing ∷ [])) ∷ negation (both (matchers (all ∷ all ∷ []))) ∷ []))) ≡ codes "(all or none) and not (all and all)"
+needed = refl
+
+its_nesting : matcher_nesting (both (matchers (either (matchers (all ∷ nothing ∷ [])) ∷ negation (both (matchers (all ∷ all ∷ []))) ∷ []))) ≡ 2
+its_nesting = refl
+
+an_or_in_an_or : spelled_matcher (either (matchers (all ∷ either (matchers (all ∷ nothing ∷ [])) ∷ []))) ≡ codes "all or (all or none)"
+an_or_in_an_or = refl
+
+-- and nowhere else
+none_needed : spelled_matcher (either (matchers (both (matchers (all ∷ nothing ∷ [])) ∷ negation (negation all) ∷ []))) ≡ codes "all and none or not not all"
+none_needed = refl
