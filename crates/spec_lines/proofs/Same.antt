@@ -6,7 +6,7 @@ use Rattle.gl_lines.specs.declared.line.Line.{Line}
 use Rattle.gl_lines.specs.declared.line.Line.TheVariants as line
 use Rattle.spec_lines.specs.Line.{line_of_text}
 use Rattle.spec_lines.specs.Spelled.{spelled_names, spelled_may, spelled_others, spelled_after, spelled_line}
-use Rattle.spec_lines.specs.Same.{all_moved, unplaced, AreSame, ReadsBack}
+use Rattle.spec_lines.specs.Same.{all_moved, unplaced, AreSame, ReadsBack, IsLine}
 use Rattle.spec_lines.proofs.Lines.{one_line}
 use Rattle.spec_lines.proofs.Placed.{line_again}
 
@@ -68,6 +68,10 @@ spelled_unplaced (line.Show list) = refl
 
 same_spelling : (l k : Line) → AreSame l k → spelled_line k ≡ spelled_line l
 same_spelling l k same = sym (spelled_unplaced k) ∙ ap spelled_line (sym same) ∙ spelled_unplaced l
+
+-- the one spelling of whatever was read is spelled, and is that of the same line
+pub respelled : (l : Line) → IsLine l → (m : Line) × line_of_text m (spelled_line l) × (unplaced m ≡ unplaced l)
+respelled l is = (l, line_again l is.0 is.1, refl)
 
 pub line_back : (l : Line) → ReadsBack l
 line_back l k is same =

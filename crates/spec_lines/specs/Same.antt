@@ -63,7 +63,7 @@ IsLine l = (bs : List ℕ) × line_of_text l bs
 abbrev pub AreSame : Line → Line → Type 0
 AreSame l k = unplaced l ≡ unplaced k
 
--- The one spelling of a line spells the same line, with its names in their columns, where any bytes spell it, and nothing else.
+-- Where any bytes spell the line, but for the columns that it has, its one spelling spells what they spell, and nothing else.
 abbrev pub ReadsBack : Line → Type 0
 ReadsBack l = (k : Line) → IsLine k → AreSame l k → Spell line_of_text (spelled_line l) k
 
