@@ -1,5 +1,5 @@
 //! The faults of the lines of plans: `misplaced` finds the first line that may not stand where it stands or is one too many,
-//! and `first_fault` the first fault of all, names included.
+//! and `first_fault` the first fault of all, names included. `NameTable` gives names their numbers.
 //! What lines mean together is defined in `spec_plans`.
 #![tactic(auto)]
 
@@ -18,5 +18,7 @@ mod tests;
 
 pub use gl_lines::{Line, Lines, Misplaced, Named, NamedList, NumberedLine, PlanKind};
 pub use judging::first_fault;
+pub use names::NameTable;
 pub use placing::misplaced;
 pub use spec_plans::FaultAt;
+pub use tables::{names_of_listeners, names_of_lists};

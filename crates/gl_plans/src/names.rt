@@ -13,7 +13,7 @@ use std::marker::Model;
 
 /// Names by number, and the first number of each name. A name is found in logarithmic time.
 #[derive(Drop)]
-pub(crate) struct NameTable {
+pub struct NameTable {
     alloc: Global,
     names: Vec<Name>,
     numbers: BTreeMap<Name, u32>,
@@ -32,7 +32,7 @@ impl Model for NameTable {
 
 impl NameTable {
     /// No names, which takes no memory.
-    pub(crate) fn new(alloc: Global) -> NameTable
+    pub fn new(alloc: Global) -> NameTable
         ensures { result ≡ [] }
     {
         NameTable {
@@ -43,7 +43,7 @@ impl NameTable {
     }
 
     /// The number of a name, if it is there.
-    pub(crate) fn number(&self, name: &Name) -> Option<u32>
+    pub fn number(&self, name: &Name) -> Option<u32>
         ensures value { result ≡ number_of self.now name.now }
         ensures within { IfSome result (λ number. number < length self.now) }
     {
@@ -51,14 +51,14 @@ impl NameTable {
     }
 
     /// The number that a name stands for, where it stands for one.
-    pub(crate) fn number_of(&self, named: &Named) -> u32
+    pub fn number_of(&self, named: &Named) -> u32
         ensures { result ≡ number self.now named.now }
     {
         self.number(&named.name).unwrap_or(0)
     }
 
     /// The names with a name more. They are given up where memory runs out.
-    pub(crate) fn with(self, name: &Name) -> Result<NameTable, AllocError>
+    pub fn with(self, name: &Name) -> Result<NameTable, AllocError>
         requires { length self < 2 ^ 32 }
         ensures { IfOk result (λ table. table ≡ self ++ name.now ∷ []) }
     {
@@ -77,7 +77,7 @@ impl NameTable {
     }
 
     /// The names, by number.
-    pub(crate) fn as_slice(&self) -> &[Name]
+    pub fn as_slice(&self) -> &[Name]
         ensures { result.now ≡ self.now }
     {
         self.names.as_slice()

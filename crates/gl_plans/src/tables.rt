@@ -15,9 +15,9 @@ use gl_lines::{Line, Named, NumberedLine};
 use spec_plans::ListClass;
 use std::alloc::{AllocError, Global};
 
-/// The names of the lists.
+/// The names of the lists, by number. It takes memory for them, and time in proportion to the lines, times a logarithm.
 #[tactic(auto, using(crate::proofs::Building::few_lists, crate::proofs::Building::lists_more))]
-pub(crate) fn names_of_lists(alloc: Global, lines: &[NumberedLine]) -> Result<NameTable, AllocError>
+pub fn names_of_lists(alloc: Global, lines: &[NumberedLine]) -> Result<NameTable, AllocError>
     requires { length (heads lines.now) ≤ 256 }
     ensures { IfOk result (λ table. table ≡ list_names lines.now) }
 {
@@ -39,12 +39,9 @@ fn with_list(table: NameTable, line: &Line) -> Result<NameTable, AllocError>
     }
 }
 
-/// The names of the listeners.
+/// The names of the listeners, by number, as those of the lists.
 #[tactic(auto, using(crate::proofs::Building::few_listeners, crate::proofs::Building::listeners_more))]
-pub(crate) fn names_of_listeners(
-    alloc: Global,
-    lines: &[NumberedLine],
-) -> Result<NameTable, AllocError>
+pub fn names_of_listeners(alloc: Global, lines: &[NumberedLine]) -> Result<NameTable, AllocError>
     requires { length (hearers lines.now) ≤ 256 }
     ensures { IfOk result (λ table. table ≡ listener_names lines.now) }
 {
