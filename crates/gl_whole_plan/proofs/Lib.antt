@@ -1,0 +1,9 @@
+pub mod Lasts
+pub mod Rows
+pub mod Agreeing
+pub mod Made
+pub mod Circles
+pub mod Edges
+pub mod Proxies
+pub mod Parts
+pub mod Sound

@@ -1,0 +1,5 @@
+pub mod Whole
+pub mod Fault
+pub mod Tables
+pub mod Sorts
+pub mod Proxies

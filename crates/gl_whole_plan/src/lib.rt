@@ -1,0 +1,18 @@
+//! Whole plans: `Plan::from_lines` makes the plan that lines mean, or finds their first fault or first cycle.
+//! Contracts see a plan as the definitions of `spec_plans` do.
+#![tactic(auto)]
+
+mod commands;
+mod depend;
+mod draft;
+mod fault;
+mod making;
+mod part;
+mod plan;
+mod tables;
+
+pub use fault::{Names, PlanFault};
+pub use gl_lines::{
+    Command, Line, Lines, ListDecl, ListKind, ListenerDecl, NumberedLine, PlanKind,
+};
+pub use plan::Plan;
