@@ -1,32 +1,74 @@
 -- Sorts of lines, as they are taken one after another.
 use Rattle.std.specs.Prelude.{Bool, true, false}
 use Rattle.gl_lines.specs.declared.line.Line.{Line}
-use Rattle.gl_lines.specs.declared.line.Line.TheVariants.{Filter, Sorted, Unique, Grouping, Range, Function, Collection, Transaction, Freezable, Proxy, Add, AddAll, Insert, Set, Remove, Clear}
+use Rattle.gl_lines.specs.declared.plan.ListKind.{ListKind}
+use Rattle.gl_lines.specs.declared.plan.ListKind.TheVariants as kinds
+use Rattle.gl_lines.specs.declared.plan.Command.{Command}
+use Rattle.gl_lines.specs.declared.plan.Command.TheVariants as commands
+use Rattle.gl_lines.specs.declared.line.Line.TheVariants.{Filter, Sorted, Unique, Grouping, Range, Function, Collection, Transaction, Freezable, Proxy, Add, AddAll, Insert, Set, Remove, Clear, Begin, Commit, Rollback, Freeze, Thaw, Show}
 
--- a list that keeps or passes on what its input shows
-abbrev pub is_holder : Line → Bool
-is_holder (Transaction name input) = true
-is_holder (Freezable name input) = true
-is_holder (Proxy name input) = true
-is_holder other = false
+-- a list whose declaration holds no more than its input and numbers
+abbrev pub is_plain : Line → Bool
+is_plain (Range name input bounds) = true
+is_plain (Transaction name input) = true
+is_plain (Freezable name input) = true
+is_plain (Proxy name input) = true
+is_plain other = false
 
--- a list that shows something else than its one input
+-- a list of one input and of what makes it another list
 abbrev pub is_view : Line → Bool
 is_view (Filter name input matcher) = true
 is_view (Sorted name input order) = true
 is_view (Unique name input order) = true
 is_view (Grouping name input order) = true
-is_view (Range name input bounds) = true
 is_view (Function name input func) = true
 is_view (Collection name input kids) = true
 is_view other = false
 
--- a command that edits a source
+-- a command that names no more than its list
+abbrev pub is_bare : Line → Bool
+is_bare (Clear list) = true
+is_bare (Begin list) = true
+is_bare (Commit list) = true
+is_bare (Rollback list) = true
+is_bare (Freeze list) = true
+is_bare (Thaw list) = true
+is_bare (Show list) = true
+is_bare other = false
+
+-- a command about an element, or about several
 abbrev pub is_edit : Line → Bool
 is_edit (Add list value) = true
 is_edit (AddAll list values) = true
 is_edit (Insert list index value) = true
 is_edit (Set list index value) = true
 is_edit (Remove list index) = true
-is_edit (Clear list) = true
 is_edit other = false
+
+-- a kind of list whose copy takes no memory
+abbrev pub is_plain_kind : ListKind → Bool
+is_plain_kind (kinds.Range input bounds) = true
+is_plain_kind (kinds.Transaction input) = true
+is_plain_kind (kinds.Freezable input) = true
+is_plain_kind (kinds.Proxy input) = true
+is_plain_kind other = false
+
+-- a command that gives a list another matcher, order, function or bounds
+abbrev pub is_change : Command → Bool
+is_change (commands.Match list matcher) = true
+is_change (commands.Order list order) = true
+is_change (commands.Bounds list bounds) = true
+is_change (commands.Apply list func) = true
+is_change other = false
+
+-- another command that holds numbers alone
+abbrev pub is_plain_command : Command → Bool
+is_plain_command (commands.Attach list member) = true
+is_plain_command (commands.Detach list index) = true
+is_plain_command (commands.Begin list) = true
+is_plain_command (commands.Commit list) = true
+is_plain_command (commands.Rollback list) = true
+is_plain_command (commands.Freeze list) = true
+is_plain_command (commands.Thaw list) = true
+is_plain_command (commands.Show list) = true
+is_plain_command other = false

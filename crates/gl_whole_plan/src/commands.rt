@@ -1,11 +1,11 @@
 //! The commands that lines give.
 
-ghost use Rattle.std.specs.Prelude.{◌≡◌, ℕ, List, IsTrue};
+ghost use Rattle.std.specs.Prelude.{◌≡◌, ◌||◌, ℕ, List, IsTrue};
 ghost use Rattle.spec_value.specs.Tree.{Tree};
 ghost use Rattle.spec_plans.specs.declared.part.Part.TheVariants as parts;
 ghost use Rattle.spec_plans.specs.Lines.{is_command};
 ghost use Rattle.spec_plans.specs.Making.{part_of};
-ghost use Rattle.gl_whole_plan.specs.Sorts.{is_edit};
+ghost use Rattle.gl_whole_plan.specs.Sorts.{is_edit, is_bare};
 
 use gl_lines::{Command, Line};
 use gl_plans::NameTable;
@@ -40,31 +40,13 @@ pub(crate) fn command(names: &NameTable, line: Line) -> Command
             list: names.number_of(&list),
             index,
         },
-        Line::Begin { list } => Command::Begin {
-            list: names.number_of(&list),
-        },
-        Line::Commit { list } => Command::Commit {
-            list: names.number_of(&list),
-        },
-        Line::Rollback { list } => Command::Rollback {
-            list: names.number_of(&list),
-        },
-        Line::Freeze { list } => Command::Freeze {
-            list: names.number_of(&list),
-        },
-        Line::Thaw { list } => Command::Thaw {
-            list: names.number_of(&list),
-        },
-        Line::Show { list } => Command::Show {
-            list: names.number_of(&list),
-        },
         other => edit(names, other),
     }
 }
 
-// A command that edits a source.
+// A command about an element or about several, or else what `bare` makes of the line.
 fn edit(names: &NameTable, line: Line) -> Command
-    requires { IsTrue (is_edit line) }
+    requires { IsTrue (is_edit line || is_bare line) }
     ensures { (listeners : List (List ℕ)) (rows : ℕ → List Tree) → parts.Command result ≡ part_of names.now listeners rows line }
 {
     match line {
@@ -90,7 +72,35 @@ fn edit(names: &NameTable, line: Line) -> Command
             list: names.number_of(&list),
             index,
         },
+        other => bare(names, other),
+    }
+}
+
+// A command that names no more than its list.
+fn bare(names: &NameTable, line: Line) -> Command
+    requires { IsTrue (is_bare line) }
+    ensures { (listeners : List (List ℕ)) (rows : ℕ → List Tree) → parts.Command result ≡ part_of names.now listeners rows line }
+{
+    match line {
         Line::Clear { list } => Command::Clear {
+            list: names.number_of(&list),
+        },
+        Line::Begin { list } => Command::Begin {
+            list: names.number_of(&list),
+        },
+        Line::Commit { list } => Command::Commit {
+            list: names.number_of(&list),
+        },
+        Line::Rollback { list } => Command::Rollback {
+            list: names.number_of(&list),
+        },
+        Line::Freeze { list } => Command::Freeze {
+            list: names.number_of(&list),
+        },
+        Line::Thaw { list } => Command::Thaw {
+            list: names.number_of(&list),
+        },
+        Line::Show { list } => Command::Show {
             list: names.number_of(&list),
         },
         _ => unreachable!(),

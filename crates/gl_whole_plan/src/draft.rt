@@ -3,6 +3,7 @@
 ghost use Rattle.std.specs.Prelude.{◌≡◌, [], ◌∷◌, ◌++◌, IfOk};
 ghost use Rattle.spec_plans.specs.Making.{empty_plan, with_part, with_last};
 
+use crate::alike::Alike;
 use gl_lines::{Command, ListDecl, ListenerDecl};
 use gl_value::Items;
 use spec_plans::Part;
@@ -82,6 +83,28 @@ impl Draft {
             }
             Part::Elsewhere => Ok(self),
         }
+    }
+}
+
+impl Alike for Draft {
+    fn copied(&self, alloc: Global) -> Result<Draft, AllocError> {
+        let lists = self.lists.copied(alloc)?;
+        let listeners = self.listeners.copied(alloc)?;
+        let writers = self.writers.copied(alloc)?;
+        Ok(Draft {
+            alloc,
+            limit: self.limit,
+            lists,
+            listeners,
+            writers,
+        })
+    }
+
+    fn is_same(&self, other: &Draft) -> bool {
+        self.limit == other.limit
+            && self.lists.is_same(&other.lists)
+            && self.listeners.is_same(&other.listeners)
+            && self.writers.is_same(&other.writers)
     }
 }
 

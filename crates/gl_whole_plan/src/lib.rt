@@ -2,10 +2,13 @@
 //! Contracts see a plan as the definitions of `spec_plans` do.
 #![tactic(auto)]
 
+mod alike;
+mod command;
 mod commands;
 mod depend;
 mod draft;
 mod fault;
+mod kind;
 mod making;
 mod part;
 mod plan;

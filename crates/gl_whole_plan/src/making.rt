@@ -25,9 +25,9 @@ use gl_value::Items;
 use std::alloc::{AllocError, Global};
 
 impl Plan {
-    /// The plan that the lines make, or what is wrong with them: their first fault, or else the first cycle of what lists
-    /// or listeners depend on. Lines are moved into the plan. It takes time in proportion to the lines, times a logarithm,
-    /// and memory in proportion to the lines.
+    /// The plan that the lines make, or what is wrong with them: their first fault, or else the first cycle of what
+    /// lists or listeners depend on. What lines hold is moved into the plan. It takes time in proportion to the lines,
+    /// times a logarithm, and memory in proportion to the lines.
     #[tactic(auto, using(crate::proofs::Sound::fault_of))]
     pub fn from_lines(alloc: Global, lines: Lines) -> Result<Plan, PlanFault>
         ensures plan { IfOk result (λ p. p ≡ plan_of lines) }

@@ -5,7 +5,7 @@ ghost use Rattle.spec_value.specs.Tree.{Tree};
 ghost use Rattle.gl_lines.specs.declared.line.Line.TheVariants as lines;
 ghost use Rattle.spec_plans.specs.Lines.{is_command};
 ghost use Rattle.spec_plans.specs.Making.{declared, numbers, part_of};
-ghost use Rattle.gl_whole_plan.specs.Sorts.{is_view, is_holder};
+ghost use Rattle.gl_whole_plan.specs.Sorts.{is_view, is_plain};
 ghost use Rattle.gl_whole_plan.specs.Tables.{rows_at};
 
 use crate::commands::command;
@@ -109,9 +109,9 @@ fn declared(name: Named, kind: ListKind) -> Part
     })
 }
 
-// A list that shows something else than its one input, or what `holder` makes of the line.
+// A list of one input and of what makes it another list, or else what `plain` makes of the line.
 fn view(names: &NameTable, line: Line) -> Part
-    requires { IsTrue (is_view line || (is_holder line || is_command line)) }
+    requires { IsTrue (is_view line || (is_plain line || is_command line)) }
     ensures { (listeners : List (List ℕ)) (rows : ℕ → List Tree) → result ≡ part_of names.now listeners rows line }
 {
     let (name, kind) = match line {
@@ -135,14 +135,6 @@ fn view(names: &NameTable, line: Line) -> Part
             let input = names.number_of(&input);
             (name, ListKind::Grouping { input, order })
         }
-        Line::Range {
-            name,
-            input,
-            bounds,
-        } => {
-            let input = names.number_of(&input);
-            (name, ListKind::Range { input, bounds })
-        }
         Line::Function { name, input, func } => {
             let input = names.number_of(&input);
             (name, ListKind::Function { input, func })
@@ -151,17 +143,25 @@ fn view(names: &NameTable, line: Line) -> Part
             let input = names.number_of(&input);
             (name, ListKind::Collection { input, kids })
         }
-        other => return holder(names, other),
+        other => return plain(names, other),
     };
     declared(name, kind)
 }
 
-// A list that keeps or passes on what its input shows, or else a command.
-fn holder(names: &NameTable, line: Line) -> Part
-    requires { IsTrue (is_holder line || is_command line) }
+// A list whose declaration holds no more than its input and numbers, or else a command.
+fn plain(names: &NameTable, line: Line) -> Part
+    requires { IsTrue (is_plain line || is_command line) }
     ensures { (listeners : List (List ℕ)) (rows : ℕ → List Tree) → result ≡ part_of names.now listeners rows line }
 {
     match line {
+        Line::Range {
+            name,
+            input,
+            bounds,
+        } => {
+            let input = names.number_of(&input);
+            declared(name, ListKind::Range { input, bounds })
+        }
         Line::Transaction { name, input } => {
             let input = names.number_of(&input);
             declared(name, ListKind::Transaction { input })

@@ -1,16 +1,18 @@
 //! A whole plan.
 
-ghost use Rattle.std.specs.Prelude.{◌≡◌, ◌<◌, ◌≤◌, length};
+ghost use Rattle.std.specs.Prelude.{◌≡◌, ◌↔◌, ◌<◌, ◌≤◌, length, IsTrue, IfOk};
 ghost use Rattle.spec_plans.specs.Plan.{sections_of, commands_of, proxies_of};
 ghost use Rattle.gl_whole_plan.specs.Whole.{IsWhole};
 
+use crate::alike::Alike;
 use crate::draft::Draft;
 use gl_lines::{Command, ListDecl, ListenerDecl};
-use gl_value::Items;
+use gl_value::{Items, Memory};
+use std::alloc::Global;
 use std::marker::Model;
 
-/// A plan: the most elements that a list may have, the lists and the listeners by number, and the sections of the writers.
-/// At most 256 lists, 256 listeners and 64 writers; no list and no listener depends on itself through others.
+/// A plan: the most elements that a list may have, the lists and the listeners by number, and the sections of the
+/// writers. It has at most 256 lists, 256 listeners and 64 writers, and none depends on itself through others.
 #[derive(Drop)]
 pub struct Plan {
     pub(crate) draft: Draft,
@@ -90,5 +92,20 @@ impl Plan {
         ensures { result.now ≡ proxies_of self.now }
     {
         self.proxies.as_slice()
+    }
+    /// Whether both are equal. It takes time in proportion to the plan.
+    pub fn same(&self, other: &Plan) -> bool
+        ensures { IsTrue result ↔ (self.now ≡ other.now) }
+    {
+        self.draft.is_same(&other.draft)
+    }
+
+    /// An equal plan. It takes memory in proportion to the plan, but for values and texts, which are shared.
+    pub fn copy(&self, alloc: Global) -> Result<Plan, Memory>
+        ensures { IfOk result (λ p. p ≡ self.now) }
+    {
+        let draft = self.draft.copied(alloc)?;
+        let proxies = self.proxies.copy(alloc)?;
+        Ok(Plan { draft, proxies })
     }
 }
