@@ -13,6 +13,8 @@ mod making;
 mod part;
 mod plan;
 mod tables;
+#[cfg(test)]
+mod tests;
 
 pub use fault::{Names, PlanFault};
 pub use gl_lines::{
