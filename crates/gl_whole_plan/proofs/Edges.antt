@@ -1,5 +1,5 @@
 -- Steps of the loops that gather dependencies.
-use Rattle.std.proofs.Common.{◌≡◌, ℕ, suc, ◌+◌, ◌<◌, List, [], ◌∷◌, ◌++◌, length, map, get_or, drop, refl, sym, ap, ◌∙◌, arith, append_assoc}
+use Rattle.std.proofs.Common.{◌≡◌, ℕ, suc, ◌+◌, ◌<◌, List, ◌++◌, length, map, get_or, drop, sym, ap, ◌∙◌, arith, append_assoc}
 use Rattle.std.proofs.Math.Seq.{drop-cons}
 use Rattle.gl_lines.specs.declared.plan.ListDecl.{ListDecl}
 use Rattle.gl_lines.specs.declared.plan.ListenerDecl.{ListenerDecl}

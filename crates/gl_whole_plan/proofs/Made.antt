@@ -1,8 +1,8 @@
 -- What plans that lines make have.
-use Rattle.std.proofs.Common.{◌≡◌, ℕ, suc, ◌+◌, ◌<◌, ◌≤◌, Bool, true, false, cond, List, [], ◌∷◌, ◌++◌, length, map, get_or, refl, sym, ap, subst, ◌∙◌, arith, append-nil, append_assoc}
-use Rattle.std.specs.Prelude.{All, Option, None, Some, option_map, unwrap_or, fold, filter_map, count_by, position, bytes_eq}
-use Rattle.std.specs.List.{cons_option, sum_by}
-use Rattle.std.proofs.lemmas.List.{length-map, length_push}
+use Rattle.std.proofs.Common.{◌≡◌, ℕ, suc, ◌+◌, ◌<◌, ◌≤◌, Bool, cond, List, [], ◌∷◌, ◌++◌, length, map, get_or, refl, sym, ap, ◌∙◌, arith, append-nil, append_assoc}
+use Rattle.std.specs.Prelude.{Option, None, Some, option_map, unwrap_or, fold, filter_map, count_by, bytes_eq}
+use Rattle.std.specs.List.{cons_option}
+use Rattle.std.proofs.lemmas.List.{length_push}
 use Rattle.std.proofs.lemmas.List.Sums.{sum_by-cons}
 use Rattle.std.proofs.lemmas.List.Elements.{All-nil, All-append, All-map}
 use Rattle.std.proofs.lemmas.List.Quantifiers.{position-Some}
@@ -17,7 +17,7 @@ use Rattle.spec_plans.specs.declared.part.Part.TheVariants as parts
 use Rattle.spec_plans.specs.Lines.{Head, Hearer, head_of, hearer_of, is_writer}
 use Rattle.spec_plans.specs.Names.{heads, hearers, list_names, listener_names, number_of}
 use Rattle.spec_plans.specs.Place.{count_lines}
-use Rattle.spec_plans.specs.Plan.{Plan, inputs_of, edges_from, list_edges, listener_edges}
+use Rattle.spec_plans.specs.Plan.{Plan, inputs_of, edges_from}
 use Rattle.spec_plans.specs.Making.{number, numbers, part_of, parts_of, rows_for, with_last, with_part, empty_plan, plan_of}
 use Rattle.gl_whole_plan.proofs.Agreeing.{list_in, listener_in, is_writer_part, agrees}
 

@@ -1,12 +1,12 @@
 -- The parts of lines by their tables.
-use Rattle.std.proofs.Common.{◌≡◌, ℕ, List, [], ◌∷◌, length, map, refl, sym, ap, ◌∙◌}
+use Rattle.std.proofs.Common.{◌≡◌, ℕ, List, map, ap, ◌∙◌}
 use mathlib.Core.Path.{fun_ext}
 use Rattle.std.specs.Prelude.{fold}
 use Rattle.spec_value.specs.Tree.{Tree}
 use Rattle.gl_lines.specs.declared.line.NumberedLine.{NumberedLine}
 use Rattle.spec_plans.specs.declared.part.Part.{Part}
 use Rattle.spec_plans.specs.Names.{list_names, listener_names}
-use Rattle.spec_plans.specs.Making.{part_of, rows_for, with_part, empty_plan, plan_of}
+use Rattle.spec_plans.specs.Making.{part_of, with_part, empty_plan, plan_of}
 use Rattle.gl_whole_plan.specs.declared.tables.Tables.{Tables}
 use Rattle.gl_whole_plan.specs.Tables.{AreTables, rows_at}
 

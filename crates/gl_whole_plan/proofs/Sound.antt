@@ -1,5 +1,5 @@
 -- What lines without a fault have.
-use Rattle.std.proofs.Common.{◌≡◌, ℕ, ◌≤◌, List, [], ◌++◌, length, map, refl, sym, ap, subst, ◌∙◌, arith, inl, inr}
+use Rattle.std.proofs.Common.{◌≡◌, ℕ, ◌≤◌, List, ◌++◌, length, refl, sym, ap, subst, ◌∙◌, arith, inl, inr}
 use Rattle.std.specs.Prelude.{Option, None, Some, option_map}
 use Rattle.std.specs.Option.{option_or}
 use Rattle.std.proofs.lemmas.List.{length-map}
@@ -10,8 +10,8 @@ use Rattle.gl_lines.specs.declared.plan.ListDecl.{ListDecl}
 use Rattle.gl_lines.specs.declared.plan.ListenerDecl.{ListenerDecl}
 use Rattle.gl_lines.specs.declared.fault.Misplaced.{Misplaced}
 use Rattle.spec_plans.specs.declared.fault.FaultAt.{FaultAt}
-use Rattle.spec_plans.specs.Lines.{Head, Hearer, is_writer}
-use Rattle.spec_plans.specs.Place.{first_misplaced, count_lines}
+use Rattle.spec_plans.specs.Lines.{Head, Hearer}
+use Rattle.spec_plans.specs.Place.{first_misplaced}
 use Rattle.spec_plans.specs.Names.{heads, hearers, list_names, listener_names}
 use Rattle.spec_plans.specs.NameFaults.{first_misnamed, first_fault_at}
 use Rattle.spec_plans.specs.Plan.{Plan, list_edges, listener_edges, edges_from}

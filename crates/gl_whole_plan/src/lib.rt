@@ -3,12 +3,12 @@
 #![tactic(auto)]
 
 mod alike;
+mod alike_commands;
+mod alike_kinds;
 mod command;
-mod commands;
 mod depend;
 mod draft;
 mod fault;
-mod kind;
 mod making;
 mod part;
 mod plan;

@@ -8,7 +8,7 @@ ghost use Rattle.spec_plans.specs.Making.{declared, numbers, part_of};
 ghost use Rattle.gl_whole_plan.specs.Sorts.{is_view, is_plain};
 ghost use Rattle.gl_whole_plan.specs.Tables.{rows_at};
 
-use crate::commands::command;
+use crate::command::command;
 use crate::tables::Tables;
 use gl_lines::{Line, ListDecl, ListKind, ListenerDecl, Named, NamedList};
 use gl_plans::NameTable;
