@@ -9,6 +9,7 @@ use Rattle.spec_grammar.proofs.Missed.{missed_most}
 use Rattle.spec_grammar.proofs.Reading.{Tails, Stops, IsStep, Reads}
 use Rattle.spec_grammar.proofs.Joints.{behind_on, behind_stops}
 use Rattle.spec_grammar.proofs.Tables.{differ_turned}
+use Rattle.gl_line_texts.proofs.Behind.{word_length}
 
 -- the row whose word stands
 pub row_stands : {K : Type 0} (w : List ℕ) (k : K) (rows : List (List ℕ × K)) (bs rest : List ℕ) (least : ℕ) → read_word w bs ≡ found tt rest → nearer (stopped least) (table found ((w, k) ∷ rows) bs) ≡ found k rest
@@ -52,12 +53,7 @@ abbrev pub IsShort : {A : Type 0} → Reader A → Type 0
 IsShort r = (bs : List ℕ) (left : ℕ) → r bs ≡ stopped left → left ≤ length bs
 
 word_le : (w bs rest : List ℕ) → read_word w bs ≡ found tt rest → length rest ≤ length bs
-word_le [] bs rest h = let e : bs ≡ rest = cc in omega (arith, ap length e)
-word_le (c ∷ w) [] rest h = cc
-word_le (c ∷ w) (b ∷ bs) rest h = elim (cases_Bool (eqb c b)) as (λ _. length rest ≤ length (b ∷ bs)) [
-  | inl e ↦ omega (arith, word_le w bs rest (sym (ap (λ x. cond x (read_word w bs) (stopped (length bs + 1))) e) ∙ h))
-  | inr e ↦ let clash : stopped (length bs + 1) ≡ found tt rest = sym (ap (λ x. cond x (read_word w bs) (stopped (length bs + 1))) e) ∙ h in cc
-]
+word_le w bs rest h = omega (arith, word_length w bs rest h)
 
 -- where the reading of a word stops, no nearer to the end than this
 abbrev StopsBy : List ℕ → List ℕ → List ℕ → Type 0

@@ -1,51 +1,122 @@
-//! Names in their columns, and what stands behind them.
+//! Names in their columns.
 
-ghost use Rattle.std.specs.Prelude.{◌≡◌, ◌+◌, ◌≤◌, length, codes, IfOk};
-ghost use Rattle.spec_grammar.specs.Reader.{made, sep};
-ghost use Rattle.spec_syntax.specs.Name.{read_name};
-ghost use Rattle.spec_syntax.specs.ValueReader.{read_nested, read_bracketed};
-ghost use Rattle.spec_syntax.specs.LanguageReader.{read_short, read_order, read_bounds, read_func, read_path, read_matcher};
-ghost use Rattle.spec_lines.specs.Line.{at};
+ghost use Rattle.std.specs.Prelude.{◌≡◌, ◌∷◌, ◌++◌, ◌+◌, ◌<◌, ◌^◌, [], length, IfOk};
+ghost use Rattle.spec_grammar.specs.Reader.{made, behind};
+ghost use Rattle.spec_lines.specs.Line.{in_row};
+ghost use Rattle.spec_lines.specs.Reader.{read_names};
 ghost use Rattle.gl_syntax.specs.Stop.{Reads};
-ghost use Rattle.gl_line_texts.specs.Named.{read_named, read_spaced};
+ghost use Rattle.gl_line_texts.specs.Named.{read_named, read_spaced, read_two_spaced, read_more};
 
-use crate::bounds::{bounds_ahead, short_ahead};
-use crate::func::func_ahead;
-use crate::matcher::matcher_ahead;
 use crate::name::name_ahead;
-use crate::path::{order_ahead, path_ahead};
-use gl_lang::{Bounds, Func, Matcher, Order, Path};
-use gl_lines::Named;
-use gl_syntax::{Stop, Value, value_ahead, word};
+use gl_lines::{Named, NamedList};
+use gl_syntax::{Memory, Stop, begins_with, word};
 use std::alloc::Global;
 
 /// The name, which stands in this column, and the bytes behind it. It takes memory for the name.
+#[tactic(auto, using(crate::proofs::Columns::name_length))]
 pub(crate) fn named_ahead(alloc: Global, column: u64, bytes: &[u8]) -> Result<(Named, &[u8]), Stop>
-    ensures { Reads result (read_named column bytes.now) }
+    ensures read { Reads result (read_named column bytes.now) }
+    ensures used { IfOk result (λ x. length bytes.now ≡ length x.0.name + length x.1.now) }
 {
     let (name, rest) = name_ahead(alloc, bytes)?;
     Ok((Named { name, column }, rest))
 }
 
-/// The name and the space behind it.
-#[tactic(auto, using(spec_grammar::proofs::Joints::close_on, spec_grammar::proofs::Joints::close_stops, spec_grammar::proofs::Joints::close_ends))]
+/// The column behind the name, which stands in this column.
+pub(crate) fn past(column: u64, name: &Named) -> u64
+    requires { column + length name.now.name < 2 ^ 64 }
+    ensures { result ≡ column + length name.now.name }
+{
+    column + name.name.text().bytes().len() as u64
+}
+
+/// The name and the bytes behind the space behind it.
+#[tactic(auto, using(spec_grammar::proofs::Joints::close_on, spec_grammar::proofs::Joints::close_stops, spec_grammar::proofs::Joints::close_ends, crate::proofs::Behind::word_length))]
 pub(crate) fn spaced_name(alloc: Global, column: u64, bytes: &[u8]) -> Result<(Named, &[u8]), Stop>
-    ensures { Reads result (read_spaced column bytes.now) }
+    ensures read { Reads result (read_spaced column bytes.now) }
+    ensures used { IfOk result (λ x. length bytes.now ≡ length x.0.name + 1 + length x.1.now) }
 {
     let (name, rest) = named_ahead(alloc, column, bytes)?;
     let rest = word(b" ", rest)?;
     Ok((name, rest))
 }
 
-/// A name, a space and a value.
-pub(crate) fn name_value(
+/// Two names, each with a space behind it, and the bytes behind these.
+pub(crate) fn two_spaced(
     alloc: Global,
     column: u64,
     bytes: &[u8],
-) -> Result<((Named, Value), &[u8]), Stop>
-    ensures { Reads result (made (λ ab. (at column ab.0, ab.1)) (sep read_name (codes " ") (read_nested 64) bytes.now)) }
+) -> Result<((Named, Named), &[u8]), Stop>
+    requires { column + length bytes.now < 2 ^ 64 }
+    ensures { Reads result (read_two_spaced column bytes.now) }
 {
-    let (name, rest) = spaced_name(alloc, column, bytes)?;
-    let (value, rest) = value_ahead(alloc, 64, rest)?;
-    Ok(((name, value), rest))
+    let (first, rest) = spaced_name(alloc, column, bytes)?;
+    let (second, rest) = spaced_name(alloc, past(column, &first) + 1, rest)?;
+    Ok(((first, second), rest))
+}
+
+/// Names with a separator between every two, and the bytes behind them.
+#[tactic(auto, using(crate::proofs::Columns::names_stop))]
+pub(crate) fn names_ahead(
+    alloc: Global,
+    separator: u8,
+    column: u64,
+    bytes: &[u8],
+) -> Result<(NamedList, &[u8]), Stop>
+    requires { column + length bytes.now < 2 ^ 64 }
+    ensures { Reads result (made (in_row column) (read_names separator (separator ∷ []) bytes.now)) }
+{
+    let (first, rest) = named_ahead(alloc, column, bytes)?;
+    let behind = past(column, &first);
+    let names = with_name(NamedList::new(alloc), first)?;
+    other_names(alloc, separator, names, behind, rest)
+}
+
+// The names with those behind them, each behind its separator, the first of which stands in this column.
+#[tactic(auto, using(crate::proofs::Columns::more_ends, crate::proofs::Columns::more_stops))]
+fn other_names(
+    alloc: Global,
+    separator: u8,
+    names: NamedList,
+    column: u64,
+    bytes: &[u8],
+) -> Result<(NamedList, &[u8]), Stop>
+    requires { column + length bytes.now < 2 ^ 64 }
+    ensures { Reads result (read_more separator names column (length bytes.now) bytes.now) }
+{
+    let mut names = names;
+    let mut column = column;
+    let mut rest = bytes;
+    'names: while begins_with(separator, rest) {
+        let (name, others) = name_behind(alloc, separator, column + 1, rest)?;
+        column = past(column + 1, &name);
+        names = with_name(names, name)?;
+        rest = others;
+    }
+    Ok((names, rest))
+}
+
+/// The name behind a separator; the name stands in this column.
+#[tactic(auto, using(spec_grammar::proofs::Joints::behind_on, spec_grammar::proofs::Joints::behind_stops, crate::proofs::Behind::word_length))]
+pub(crate) fn name_behind(
+    alloc: Global,
+    separator: u8,
+    column: u64,
+    bytes: &[u8],
+) -> Result<(Named, &[u8]), Stop>
+    ensures read { Reads result (behind (separator ∷ []) (read_named column) bytes.now) }
+    ensures used { IfOk result (λ x. length bytes.now ≡ 1 + length x.0.name + length x.1.now) }
+{
+    let rest = word(&[separator], bytes)?;
+    named_ahead(alloc, column, rest)
+}
+
+/// The names with one more.
+pub(crate) fn with_name(mut names: NamedList, name: Named) -> Result<NamedList, Memory>
+    ensures { IfOk result (λ more. more ≡ names ++ name ∷ []) }
+{
+    match names.push(name) {
+        Ok(()) => Ok(names),
+        Err((_, failed)) => Err(failed),
+    }
 }

@@ -26,7 +26,7 @@ pub(crate) fn row_ahead<'a, K: Copy>(
     Err(Stop::Form { left: least })
 }
 
-fn lesser(a: usize, b: usize) -> usize
+pub(crate) fn lesser(a: usize, b: usize) -> usize
     ensures { result ≡ min a b }
 {
     if a < b { a } else { b }
