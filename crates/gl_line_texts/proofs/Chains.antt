@@ -1,8 +1,8 @@
 -- The reading of matchers, by their words, and of chains unit by unit.
-use Rattle.std.proofs.Common.{◌≡◌, ℕ, zero, suc, ◌+◌, ◌-◌, ◌<◌, ◌≤◌, Bool, true, false, cond, List, [], ◌∷◌, ◌++◌, length, refl, sym, ap, ◌∙◌, subst, arith, append_assoc, append-nil, length-append, codes}
+use Rattle.std.proofs.Common.{◌≡◌, ℕ, zero, suc, ◌-◌, ◌<◌, Bool, true, false, cond, List, [], ◌∷◌, ◌++◌, length, refl, sym, ap, ◌∙◌, subst, arith, append_assoc, append-nil, length-append, codes}
 use Rattle.std.specs.Prelude.{fold}
 use Rattle.spec_grammar.specs.Grammar.{words}
-use Rattle.spec_grammar.specs.Reader.{Step, found, stopped, Reader, first_is, made, on, seq, repeated, all_of, folded, table}
+use Rattle.spec_grammar.specs.Reader.{Step, found, stopped, Reader, first_is, made, on, repeated, all_of, table}
 use Rattle.spec_grammar.proofs.Reading.{no_more, Finds, IsStep, Reads}
 use Rattle.spec_grammar.proofs.Sequences.{made_of_reads}
 use Rattle.spec_grammar.proofs.Tables.{table_reads}
@@ -21,7 +21,7 @@ use Rattle.gl_line_texts.specs.declared.matcher.Joint.{Joint}
 use Rattle.gl_line_texts.specs.declared.matcher.Opening.{Opening}
 use Rattle.gl_line_texts.specs.Chains.{Parts, joint_of, joints, opened, openings, constant, flat_of, flat_openings, all_parts, any_part, put, finish, read_part, read_others}
 use Rattle.gl_line_texts.proofs.Names.{first_some}
-use Rattle.gl_line_texts.proofs.Tables.{IsShort, table_on, reads_short}
+use Rattle.gl_line_texts.proofs.Tables.{table_on, reads_short}
 
 -- a test and its literal
 tests_are : (bs : List ℕ) → table read_tested test_words bs ≡ on (table found test_words bs) read_tested

@@ -1,5 +1,5 @@
 -- Names in their columns, one after another.
-use Rattle.std.proofs.Common.{◌≡◌, ℕ, zero, suc, ◌+◌, ◌-◌, ◌≤◌, true, false, cond, List, [], ◌∷◌, ◌++◌, length, refl, sym, ap, ◌∙◌, subst, arith, append_assoc, append-nil, length-append, codes}
+use Rattle.std.proofs.Common.{◌≡◌, ℕ, zero, suc, ◌+◌, ◌-◌, ◌≤◌, true, false, cond, List, [], ◌∷◌, ◌++◌, length, refl, sym, ap, ◌∙◌, subst, arith, append_assoc, append-nil, length-append}
 use Rattle.spec_value.specs.Name.{is_name_byte}
 use Rattle.spec_grammar.specs.Reader.{Step, found, stopped, Reader, first_is, made, on, read_word, behind, repeated, all_of}
 use Rattle.spec_grammar.proofs.Reading.{no_more, Finds, IsStep}

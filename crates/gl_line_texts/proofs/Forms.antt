@@ -1,5 +1,5 @@
 -- Things behind names.
-use Rattle.std.proofs.Common.{◌≡◌, ℕ, ◌+◌, List, length, refl, sym, ap, ◌∙◌, codes}
+use Rattle.std.proofs.Common.{◌≡◌, ℕ, ◌+◌, List, length, refl, ap, ◌∙◌, codes}
 use Rattle.spec_grammar.specs.Reader.{Step, found, stopped, Reader, made, on, read_word, sep}
 use Rattle.spec_syntax.specs.Name.{read_name}
 use Rattle.spec_lines.specs.Line.{at, two_names}

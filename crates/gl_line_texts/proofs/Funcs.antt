@@ -2,7 +2,7 @@
 use Rattle.std.proofs.Common.{◌≡◌, ℕ, zero, suc, ◌-◌, ◌+◌, ◌<◌, ◌≤◌, true, false, cond, eqb, List, [], ◌∷◌, length, refl, sym, ap, ◌∙◌, subst, inl, inr, arith, codes}
 use Rattle.std.proofs.lemmas.Bool.{cases_Bool}
 use Rattle.spec_grammar.specs.Grammar.{Grammar}
-use Rattle.spec_grammar.specs.Reader.{Step, found, stopped, Reader, first_is, or_else, read_word, behind}
+use Rattle.spec_grammar.specs.Reader.{found, stopped, Reader, first_is, or_else, behind}
 use Rattle.spec_grammar.proofs.Reading.{no_more, Finds, IsStep, Reads}
 use Rattle.spec_grammar.proofs.Sequences.{rest_le}
 use Rattle.spec_grammar.proofs.Joints.{behind_on, behind_stops}

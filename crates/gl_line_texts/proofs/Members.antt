@@ -1,17 +1,15 @@
 -- The members of a composite and the lists that may become members, one after another.
 use Rattle.std.proofs.Common.{◌≡◌, ℕ, zero, suc, ◌+◌, ◌-◌, ◌≤◌, true, false, cond, List, [], ◌∷◌, ◌++◌, length, refl, sym, ap, ◌∙◌, arith, append_assoc, append-nil, codes}
-use Rattle.spec_grammar.specs.Reader.{Step, found, stopped, Reader, first_is, made, on, seq, read_word, behind, nearer}
+use Rattle.spec_grammar.specs.Reader.{Step, found, stopped, first_is, made, on, seq, read_word, behind, nearer}
 use Rattle.spec_grammar.proofs.Joints.{behind_on, behind_stops}
 use Rattle.spec_syntax.specs.Name.{read_name}
 use Rattle.spec_syntax.specs.ValueReader.{is}
 use Rattle.spec_lines.specs.Line.{at, in_row, past, composite_line}
 use Rattle.spec_lines.specs.Reader.{read_names, read_may, member_or_may, read_composite, read_composite_part}
 use Rattle.gl_lines.specs.declared.named.Named.{Named}
-use Rattle.gl_lines.specs.declared.line.Line.{Line}
 use Rattle.gl_lines.specs.declared.line.Line.TheVariants as line
 use Rattle.gl_line_texts.specs.Named.{read_named}
 use Rattle.gl_line_texts.specs.Members.{put_before, read_members, may_or, member_or, read_part, behind_part}
-use Rattle.gl_line_texts.specs.declared.composite.Part.{Part}
 use Rattle.gl_line_texts.specs.declared.composite.Part.TheVariants.{Member, May}
 use Rattle.gl_line_texts.proofs.Columns.{made_behind, behind_length}
 use Rattle.gl_line_texts.proofs.Names.{first_some}

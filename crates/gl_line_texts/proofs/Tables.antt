@@ -1,10 +1,10 @@
 -- Reading the words of a table.
-use Rattle.std.proofs.Common.{◌≡◌, ℕ, zero, suc, ◌+◌, ◌<◌, ◌≤◌, min, true, false, cond, eqb, List, [], ◌∷◌, ◌++◌, length, refl, sym, ap, ◌∙◌, subst, inl, inr, arith, IsTrue}
+use Rattle.std.proofs.Common.{◌≡◌, ℕ, ◌+◌, ◌≤◌, min, true, cond, eqb, List, [], ◌∷◌, ◌++◌, length, refl, sym, ap, ◌∙◌, subst, inl, inr, arith, IsTrue}
 use Rattle.std.specs.List.{AllByRecursion}
 use Rattle.std.proofs.lemmas.Bool.{cases_Bool, false≢true}
 use Rattle.std.proofs.lemmas.Bool.Decides.{nat_tests}
 use Rattle.spec_grammar.specs.Grammar.{Grammar, differ, AreApart}
-use Rattle.spec_grammar.specs.Reader.{Step, found, stopped, Reader, made, on, behind, read_word, nearer, table}
+use Rattle.spec_grammar.specs.Reader.{Step, found, stopped, Reader, made, on, read_word, nearer, table}
 use Rattle.spec_grammar.proofs.Missed.{missed_most}
 use Rattle.spec_grammar.proofs.Reading.{Tails, Stops, IsStep, Reads}
 use Rattle.spec_grammar.proofs.Joints.{behind_on, behind_stops}

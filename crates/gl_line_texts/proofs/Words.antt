@@ -1,9 +1,9 @@
 -- The tables of words, as the code has them.
-use Rattle.std.proofs.Common.{◌≡◌, ℕ, List, refl, ap, ◌∙◌, codes}
-use Rattle.spec_grammar.specs.Reader.{Step, found, stopped, made, on, sep, table}
+use Rattle.std.proofs.Common.{◌≡◌, ℕ, List, refl, ap, ◌∙◌}
+use Rattle.spec_grammar.specs.Reader.{found, stopped, on, table}
 use Rattle.spec_grammar.proofs.Reading.{no_more}
 use Rattle.spec_syntax.specs.Bounds.{two_numbers}
-use Rattle.spec_syntax.specs.LanguageReader.{read_short, read_two_numbers, read_bounds}
+use Rattle.spec_syntax.specs.LanguageReader.{read_two_numbers, read_bounds}
 use Rattle.spec_syntax.proofs.Paths.{two_reads}
 use Rattle.spec_lines.proofs.Apart.{apart_from}
 use Rattle.spec_lines.proofs.Composites.{ends, none_behind}

@@ -1,9 +1,9 @@
 -- Readers of names in their columns.
 use Rattle.std.specs.Prelude.{◌+◌, ℕ, List, [], ◌∷◌, ◌++◌, length, codes}
-use Rattle.spec_grammar.specs.Reader.{Step, Reader, made, on, made_of, behind, close, repeated}
+use Rattle.spec_grammar.specs.Reader.{Reader, made, on, made_of, behind, close, repeated}
 use Rattle.spec_syntax.specs.Name.{read_name}
 use Rattle.spec_syntax.specs.ValueReader.{is}
-use Rattle.spec_lines.specs.Line.{at, in_row, past}
+use Rattle.spec_lines.specs.Line.{at, in_row}
 use Rattle.gl_lines.specs.declared.named.Named.{Named}
 
 abbrev pub read_named : ℕ → Reader Named

@@ -1,10 +1,10 @@
-use Rattle.std.proofs.Common.{◌≡◌, List, [], ◌∷◌, ◌++◌, ◌-◌, ◌∙◌, sym, ap, subst, arith, MatchResult}
+use Rattle.std.proofs.Common.{◌≡◌, [], ◌∷◌, ◌++◌, ◌-◌, ◌∙◌, sym, ap, subst, arith, MatchResult}
 use Rattle.spec_grammar.specs.Reader.{found, folded, made}
 use Rattle.spec_grammar.proofs.Folds.{folded_on}
 use Rattle.spec_syntax.specs.ValueReader.{is}
 use Rattle.spec_syntax.specs.LanguageReader.{read_chain, read_unit}
 use Rattle.gl_syntax.specs.Stop.{IsStop}
-use Rattle.gl_line_texts.specs.Chains.{Parts, joint_of, put, finish, read_part, read_others}
+use Rattle.gl_line_texts.specs.Chains.{joint_of, put, finish, read_part, read_others}
 use Rattle.gl_line_texts.proofs.Chains.{joined_rest, chain_on}
 use Rattle.gl_line_texts.proofs.matcher.+matcher.Goals as goal
 

@@ -1,4 +1,4 @@
-use Rattle.std.proofs.Common.{◌≡◌, ◌+◌, ◌∙◌, ◌∷◌, ◌++◌, [], length, sym, ap, subst, MatchResult}
+use Rattle.std.proofs.Common.{◌≡◌, ◌∙◌, ◌∷◌, ◌++◌, [], length, sym, ap, subst, MatchResult}
 use Rattle.spec_grammar.specs.Reader.{found, made}
 use Rattle.spec_lines.specs.Line.{in_row}
 use Rattle.spec_lines.specs.Reader.{read_names}
