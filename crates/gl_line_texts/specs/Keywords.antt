@@ -135,6 +135,7 @@ in_columns (row ∷ rows) = (row.0, (length row.0 + 1, row.1)) ∷ in_columns ro
 abbrev pub form_in : ℕ × Keyword → ℕ × Form
 form_in ck = (ck.0, form_of ck.1)
 
+-- the word of a line, and a whole line, as names that the proofs of code leave closed
 unfoldable pub read_keyword : Reader Keyword
 read_keyword bs = table found keywords bs
 

@@ -1,7 +1,8 @@
 //! The words that lines begin with.
 
 ghost use Rattle.std.specs.Prelude.{◌≡◌};
-ghost use Rattle.gl_line_texts.specs.Keywords.{bare_line, about, about_two, with_value, with_index, with_value_at, with_order};
+ghost use Rattle.gl_line_texts.specs.Keywords.{bare_line, about, about_two};
+ghost use Rattle.gl_line_texts.specs.Keywords.{with_value, with_index, with_value_at, with_order};
 
 use gl_lang::Order;
 use gl_lines::{Line, Named};
