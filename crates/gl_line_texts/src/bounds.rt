@@ -1,9 +1,9 @@
 //! The bounds of ranges.
 
 ghost use Rattle.std.specs.Prelude.{◌≡◌, codes};
-ghost use Rattle.spec_grammar.specs.Reader.{behind, sep, made};
+ghost use Rattle.spec_grammar.specs.Reader.{behind, sep};
 ghost use Rattle.spec_syntax.specs.LanguageReader.{read_short, read_two_numbers, read_bounds};
-ghost use Rattle.gl_line_texts.specs.Ends.{bounds_of, end_words};
+ghost use Rattle.gl_line_texts.specs.Ends.{bounds_of};
 ghost use Rattle.gl_syntax.specs.Stop.{Reads};
 
 use crate::table::row_ahead;

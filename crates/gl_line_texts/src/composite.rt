@@ -1,7 +1,7 @@
-//! Lines of composites.
+//! Lines of composites: a name, members, each behind a space, and behind ` may ` the lists that may become members.
 
-ghost use Rattle.std.specs.Prelude.{◌+◌, ◌<◌, ◌^◌, [], length, codes};
-ghost use Rattle.spec_grammar.specs.Reader.{made, stopped, nearer, behind};
+ghost use Rattle.std.specs.Prelude.{◌+◌, ◌<◌, ◌^◌, [], length};
+ghost use Rattle.spec_grammar.specs.Reader.{made, stopped, behind};
 ghost use Rattle.spec_lines.specs.Line as form;
 ghost use Rattle.spec_lines.specs.Line.{in_row};
 ghost use Rattle.spec_lines.specs.Reader.{read_formed, read_may};
@@ -21,6 +21,7 @@ enum Part {
     May(NamedList),
 }
 
+/// The line of a composite, from behind its first word on.
 #[tactic(auto, using(crate::proofs::Members::composite_found, crate::proofs::Members::composite_stops, crate::proofs::Members::composite_ends))]
 pub(crate) fn composite(alloc: Global, column: u64, bytes: &[u8]) -> Result<(Line, &[u8]), Stop>
     requires { column + length bytes.now + 7 < 2 ^ 64 }

@@ -92,6 +92,7 @@ pub(crate) enum NamesOrder {
     Grouping,
 }
 
+/// The words of lines, each with the byte behind it where more follows. None begins another.
 pub(crate) const KEYWORDS: [(&str, Keyword); 37] = [
     ("limit ", Keyword::Limit),
     ("source ", Keyword::OneName(OneName::Source)),
@@ -133,6 +134,7 @@ pub(crate) const KEYWORDS: [(&str, Keyword); 37] = [
 ];
 
 impl Bare {
+    /// The line that is the word alone.
     pub(crate) fn line(self) -> Line
         ensures { result ≡ bare_line self }
     {

@@ -61,7 +61,8 @@ fn keyword_ahead(bytes: &[u8]) -> Result<(Keyword, &[u8]), Stop>
     row_ahead(&KEYWORDS, bytes)
 }
 
-// The line that the word begins, from behind the word on, and the bytes behind it.
+// The line that the word begins, from behind the word on, and the bytes behind it. A listener's names behind ` after `
+// begin 7 columns further, so the columns have these 7 to spare.
 fn formed_ahead(
     alloc: Global,
     keyword: Keyword,

@@ -1,4 +1,4 @@
-//! Lines of listeners.
+//! Lines of listeners: a name, ` on ` and a list, the listeners behind ` after `, and ` echo`.
 
 ghost use Rattle.std.specs.Prelude.{◌≡◌, ◌+◌, ◌<◌, ◌^◌, false, length, codes, IfOk};
 ghost use Rattle.spec_grammar.specs.Reader.{made, seq, close, maybe};
@@ -24,6 +24,7 @@ enum Ending {
 
 const ENDINGS: [(&str, Ending); 2] = [(" after ", Ending::After), (" echo", Ending::Echo)];
 
+/// The line of a listener, from behind its first word on.
 #[tactic(auto, using(crate::proofs::Endings::listened_found, crate::proofs::Endings::listened_stops, crate::proofs::Endings::listened_ends))]
 pub(crate) fn listener(alloc: Global, column: u64, bytes: &[u8]) -> Result<(Line, &[u8]), Stop>
     requires { column + length bytes.now + 7 < 2 ^ 64 }

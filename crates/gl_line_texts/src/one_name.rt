@@ -1,8 +1,8 @@
-//! Lines of a name and one thing more.
+//! Lines of a number, of a name, and of a name and one thing more. They are read from behind their first word on.
 
 ghost use Rattle.std.specs.Prelude.{codes};
-ghost use Rattle.spec_grammar.specs.Reader.{behind, close};
-ghost use Rattle.spec_syntax.specs.ValueReader.{read_nested, read_elements, read_bracketed};
+ghost use Rattle.spec_grammar.specs.Reader.{behind};
+ghost use Rattle.spec_syntax.specs.ValueReader.{read_nested, read_bracketed};
 ghost use Rattle.spec_lines.specs.Line as form;
 ghost use Rattle.spec_lines.specs.Reader.{read_formed, read_index_value};
 ghost use Rattle.gl_lines.specs.declared.line.Line.TheVariants as line;
@@ -20,6 +20,7 @@ use gl_syntax::{Stop, Value, elements_ahead, positive_ahead, value_ahead, word};
 use gl_value::Values;
 use std::alloc::Global;
 
+/// The limit, from 1 to 2^24.
 pub(crate) fn limit_ahead(column: u64, bytes: &[u8]) -> Result<(Line, &[u8]), Stop>
     ensures { Reads result (read_formed (column, form.limited) bytes.now) }
 {
@@ -27,6 +28,7 @@ pub(crate) fn limit_ahead(column: u64, bytes: &[u8]) -> Result<(Line, &[u8]), St
     Ok((Line::Limit { limit }, rest))
 }
 
+/// A name.
 pub(crate) fn one_name(
     alloc: Global,
     word: OneName,
@@ -39,6 +41,7 @@ pub(crate) fn one_name(
     Ok((word.line(name), rest))
 }
 
+/// A name and a value, nested 64 deep at most.
 pub(crate) fn name_value(
     alloc: Global,
     word: NameValue,
@@ -52,6 +55,7 @@ pub(crate) fn name_value(
     Ok((word.line(list, value), rest))
 }
 
+/// A name and a list of values.
 pub(crate) fn name_values(alloc: Global, column: u64, bytes: &[u8]) -> Result<(Line, &[u8]), Stop>
     ensures { Reads result (read_formed (column, form.name_values line.AddAll) bytes.now) }
 {
@@ -71,6 +75,7 @@ fn values_ahead(alloc: Global, bytes: &[u8]) -> Result<(Values, &[u8]), Stop>
     Ok((values, behind))
 }
 
+/// A name and a matcher.
 pub(crate) fn name_matcher(alloc: Global, column: u64, bytes: &[u8]) -> Result<(Line, &[u8]), Stop>
     ensures { Reads result (read_formed (column, form.name_matcher line.Match) bytes.now) }
 {
@@ -79,6 +84,7 @@ pub(crate) fn name_matcher(alloc: Global, column: u64, bytes: &[u8]) -> Result<(
     Ok((Line::Match { list, matcher }, rest))
 }
 
+/// A name and an order.
 pub(crate) fn name_order(alloc: Global, column: u64, bytes: &[u8]) -> Result<(Line, &[u8]), Stop>
     ensures { Reads result (read_formed (column, form.name_order line.Order) bytes.now) }
 {
@@ -87,6 +93,7 @@ pub(crate) fn name_order(alloc: Global, column: u64, bytes: &[u8]) -> Result<(Li
     Ok((Line::Order { list, order }, rest))
 }
 
+/// A name and bounds.
 pub(crate) fn name_bounds(alloc: Global, column: u64, bytes: &[u8]) -> Result<(Line, &[u8]), Stop>
     ensures { Reads result (read_formed (column, form.name_bounds line.Bounds) bytes.now) }
 {
@@ -95,6 +102,7 @@ pub(crate) fn name_bounds(alloc: Global, column: u64, bytes: &[u8]) -> Result<(L
     Ok((Line::Bounds { list, bounds }, rest))
 }
 
+/// A name and a function, nested 8 deep at most.
 pub(crate) fn name_func(alloc: Global, column: u64, bytes: &[u8]) -> Result<(Line, &[u8]), Stop>
     ensures { Reads result (read_formed (column, form.name_func line.Apply) bytes.now) }
 {
@@ -103,6 +111,7 @@ pub(crate) fn name_func(alloc: Global, column: u64, bytes: &[u8]) -> Result<(Lin
     Ok((Line::Apply { list, func }, rest))
 }
 
+/// A name and an index.
 pub(crate) fn name_index(
     alloc: Global,
     word: NameIndex,
@@ -116,6 +125,7 @@ pub(crate) fn name_index(
     Ok((word.line(list, index), rest))
 }
 
+/// A name, an index and a value.
 pub(crate) fn name_index_value(
     alloc: Global,
     word: NameIndexValue,

@@ -1,4 +1,4 @@
-//! Lines of two names, and of two names and one thing more.
+//! Lines of two names, and of two names and one thing more. They are read from behind their first word on.
 
 ghost use Rattle.std.specs.Prelude.{◌+◌, ◌<◌, ◌^◌, length};
 ghost use Rattle.spec_lines.specs.Line as form;
@@ -18,6 +18,7 @@ use gl_lines::Line;
 use gl_syntax::Stop;
 use std::alloc::Global;
 
+/// Two names.
 pub(crate) fn two_names(
     alloc: Global,
     word: TwoNames,
@@ -32,6 +33,7 @@ pub(crate) fn two_names(
     Ok((word.line(first, second), rest))
 }
 
+/// Two names and a matcher.
 pub(crate) fn names_matcher(alloc: Global, column: u64, bytes: &[u8]) -> Result<(Line, &[u8]), Stop>
     requires { column + length bytes.now < 2 ^ 64 }
     ensures { Reads result (read_formed (column, form.names_matcher line.Filter) bytes.now) }
@@ -48,6 +50,7 @@ pub(crate) fn names_matcher(alloc: Global, column: u64, bytes: &[u8]) -> Result<
     ))
 }
 
+/// Two names and an order.
 pub(crate) fn names_order(
     alloc: Global,
     word: NamesOrder,
@@ -62,6 +65,7 @@ pub(crate) fn names_order(
     Ok((word.line(name, input, order), rest))
 }
 
+/// Two names and bounds.
 pub(crate) fn names_bounds(alloc: Global, column: u64, bytes: &[u8]) -> Result<(Line, &[u8]), Stop>
     requires { column + length bytes.now < 2 ^ 64 }
     ensures { Reads result (read_formed (column, form.names_bounds line.Range) bytes.now) }
@@ -78,6 +82,7 @@ pub(crate) fn names_bounds(alloc: Global, column: u64, bytes: &[u8]) -> Result<(
     ))
 }
 
+/// Two names and a function, nested 8 deep at most.
 pub(crate) fn names_func(alloc: Global, column: u64, bytes: &[u8]) -> Result<(Line, &[u8]), Stop>
     requires { column + length bytes.now < 2 ^ 64 }
     ensures { Reads result (read_formed (column, form.names_func line.Function) bytes.now) }
@@ -87,6 +92,7 @@ pub(crate) fn names_func(alloc: Global, column: u64, bytes: &[u8]) -> Result<(Li
     Ok((Line::Function { name, input, func }, rest))
 }
 
+/// Two names and the path of the children.
 pub(crate) fn names_path(alloc: Global, column: u64, bytes: &[u8]) -> Result<(Line, &[u8]), Stop>
     requires { column + length bytes.now < 2 ^ 64 }
     ensures { Reads result (read_formed (column, form.names_path line.Collection) bytes.now) }
