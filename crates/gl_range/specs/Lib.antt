@@ -1,0 +1,4 @@
+pub mod Kept
+pub mod Told
+pub mod Walks
+pub mod Stands
