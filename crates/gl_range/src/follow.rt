@@ -65,7 +65,9 @@ fn step<S: Shelf>(
     requires news { walk.old.new_place + new_len (pieces_in (cell_ref cell)) ≤ length (S.items input.now) }
     requires olds { walk.old.old_place + old_len (pieces_in (cell_ref cell)) ≤ 2147483647 }
     requires few { length (S.items input.now) ≤ 2147483647 }
-    requires can { CanTell (told_in (S.items input.now) slices walk.old.old_place walk.old.new_place (pieces_in (cell_ref cell))) walk.old.out.pieces }
+    requires can { CanTell
+        (told_in (S.items input.now) slices walk.old.old_place walk.old.new_place (pieces_in (cell_ref cell)))
+        walk.old.out.pieces }
     ensures { OnOk result (GoesOn
         (told_in (S.items input.now) slices walk.old.old_place walk.old.new_place (pieces_in (cell_ref cell.entry)))
         (old_len (pieces_in (cell_ref cell.entry))) (new_len (pieces_in (cell_ref cell.entry))) walk.old walk.new) }

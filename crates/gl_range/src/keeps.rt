@@ -12,8 +12,8 @@ use gl_kernel::{element, tell, tell_kept};
 use gl_value::Shelf;
 use std::alloc::AllocError;
 
-/// What is told of so many kept elements: all those are told in one cell that are shown or hidden alike before and behind
-/// the change, which makes at most five stretches.
+/// What is told of so many kept elements. Those next to one another that all stay are told in one cell, and those that
+/// stay hidden are passed over in one step: the four ends of both slices cut the elements into at most five stretches.
 pub(crate) fn tell_keeps<S: Shelf>(
     walk: &mut Walk,
     slices: Slices,
@@ -23,9 +23,12 @@ pub(crate) fn tell_keeps<S: Shelf>(
     requires news { walk.old.new_place + n ≤ length (S.items input.now) }
     requires olds { walk.old.old_place + n ≤ 2147483647 }
     requires few { length (S.items input.now) ≤ 2147483647 }
-    requires can { CanTell (told_in (S.items input.now) slices walk.old.old_place walk.old.new_place (replicate n kept)) walk.old.out.pieces }
+    requires can { CanTell
+        (told_in (S.items input.now) slices walk.old.old_place walk.old.new_place (replicate n kept))
+        walk.old.out.pieces }
     ensures { OnOk result (GoesOn
-        (told_in (S.items input.now) slices walk.old.old_place walk.old.new_place (replicate n kept)) n n walk.old walk.new) }
+        (told_in (S.items input.now) slices walk.old.old_place walk.old.new_place (replicate n kept))
+        n n walk.old walk.new) }
 {
     let mut left = n;
     'stretches: while 0 < left {

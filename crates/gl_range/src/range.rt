@@ -18,8 +18,8 @@ use std::alloc::{AllocError, Global};
 use std::marker::Model;
 use std::sync::ledger::Ledger;
 
-/// A slice of a list, whose ends count from the head or from the tail: the RangeList of Glazed Lists. It keeps none of its
-/// elements.
+/// A slice of a list, whose ends count from the head or from the tail: the RangeList of Glazed Lists. It keeps none of
+/// its elements.
 #[derive(Drop)]
 pub struct RangeKernel {
     alloc: Global,
@@ -154,7 +154,8 @@ impl RangeKernel {
 
     /// Where the element that is shown at a place stands, or `None` exactly where the place isn't below the length.
     pub fn find(&self, place: usize) -> Option<Find<'_>>
-        ensures view { (xs : List Tree) → StandsFor self.now xs → found result xs ≡ slice_get (range_view self.now.bounds xs) place }
+        ensures view { (xs : List Tree) → StandsFor self.now xs
+            → found result xs ≡ slice_get (range_view self.now.bounds xs) place }
         ensures some { IsSome result ↔ (place < shown_len self.now) }
     {
         if place < self.len() {

@@ -42,8 +42,8 @@ impl Slice {
         self.start <= place && place < self.end
     }
 
-    /// How many elements from a place on are shown or hidden as the one there is: as many as there are up to the next end
-    /// of the slice, and no more than `most`.
+    /// How many elements from a place on are shown or hidden as the one there is: as many as there are up to the next
+    /// end of the slice, and no more than `most`.
     pub(crate) fn alike(self, place: usize, most: usize) -> usize
         requires { 0 < most }
         ensures some { 0 < result }

@@ -1,0 +1,80 @@
+use Rattle.std.proofs.Common.{◌∙◌, List, length, map, ap, sym, subst, arith}
+use Rattle.spec_value.specs.Tree.{Tree}
+use Rattle.spec_lists.specs.Piece.{turned, normal}
+use Rattle.spec_lists.specs.Leads.{applied}
+use Rattle.spec_lists.proofs.Leading.{length_from}
+use Rattle.spec_lang.specs.Func.{eval}
+use Rattle.gl_kernel.specs.declared.edit.Edit.{Edit}
+use Rattle.gl_kernel.specs.Edits.{AreWithin, played, insertions}
+use Rattle.gl_kernel.specs.Fates.{fate, edits_of}
+use Rattle.gl_kernel.proofs.Fating.{delta_played, delta_within, delta_insertions}
+use Rattle.gl_kernel.proofs.Leading.{from_new}
+use Rattle.gl_kernel.proofs.Making.{length-made}
+use Rattle.gl_function.specs.Kept.{Kept}
+use Rattle.gl_function.specs.Told.{told_results}
+use Rattle.gl_function.proofs.Telling.{follow_is}
+use Rattle.gl_function.proofs.function.Function.advance.Goals as goal
+
+pub follow-requires : goal.follow-requires
+follow-requires g c =
+    let ps = c.args.d.now.pieces in
+    let ys = g.S.Shelf.items c.args.input.now in
+    let xs = applied (map turned ps) ys in
+    let leads = from_new ps ys c.old_len-olds.ensures.normal c.requires.leads in
+    let values = ap (λ (k : Kept). k.values) c.self.view_is ∙ c.requires.stands in
+    omega (arith, length_from ps xs leads.starts, ap length values, length-made (eval c.args.self.now.func) xs)
+
+pub apply-requires-clause-within : goal.apply-requires-clause-within
+apply-requires-clause-within g c =
+    let ps = c.args.d.now.pieces in
+    let ys = g.S.Shelf.items c.args.input.now in
+    let xs = applied (map turned ps) ys in
+    let leads = from_new ps ys c.old_len-olds.ensures.normal c.requires.leads in
+    let f = eval c.self.inside.func in
+    let values = ap (λ (k : Kept). k.values) c.self.view_is ∙ (c.requires.stands ∙ ap (λ (k : Kept). map (eval k.func) xs) (sym c.self.view_is)) in
+    let ByLog : List (Edit Tree) → Type 0 = λ es. AreWithin es c.self.inside.results.values in
+    let ByValues : List Tree → Type 0 = λ vs. AreWithin (edits_of 0 (map (fate f) ps)) vs in
+    subst ByLog (sym c.in_ok-plan.ensures.edits) (subst ByValues (sym values) (delta_within f ps xs leads.starts))
+
+pub apply-requires-clause-few : goal.apply-requires-clause-few
+apply-requires-clause-few g c =
+    let ps = c.args.d.now.pieces in
+    let ys = g.S.Shelf.items c.args.input.now in
+    let xs = applied (map turned ps) ys in
+    let leads = from_new ps ys c.old_len-olds.ensures.normal c.requires.leads in
+    let f = eval c.self.inside.func in
+    let values = ap (λ (k : Kept). k.values) c.self.view_is ∙ c.requires.stands in
+    omega (
+      arith,
+      length_from ps xs leads.starts,
+      ap length values,
+      length-made (eval c.args.self.now.func) xs,
+      ap insertions c.in_ok-plan.ensures.edits,
+      delta_insertions f ps 0,
+      c.old_len-olds.ensures.value,
+      c.old_len-olds.ensures.few,
+      c.new_len-news.ensures.value,
+      c.new_len-news.ensures.few,
+    )
+
+pub returns-clause-pieces : goal.returns-clause-pieces
+returns-clause-pieces g c =
+    let ps = c.args.d.now.pieces in
+    let ys = g.S.Shelf.items c.args.input.now in
+    let xs = applied (map turned ps) ys in
+    let leads = from_new ps ys c.old_len-olds.ensures.normal c.requires.leads in
+    let told = ap (λ (k : Kept). normal (told_results (eval k.func) k.values 0 ps)) c.self.view_is in
+    let f = eval c.args.self.now.func in
+    c.in_ok-plan.ensures.told ∙ (told ∙ (ap (λ vs. normal (told_results f vs 0 ps)) c.requires.stands ∙ follow_is f xs ps leads.starts c.old_len-olds.ensures.normal))
+
+pub returns-clause-stands : goal.returns-clause-stands
+returns-clause-stands g c =
+    let ps = c.args.d.now.pieces in
+    let ys = g.S.Shelf.items c.args.input.now in
+    let xs = applied (map turned ps) ys in
+    let leads = from_new ps ys c.old_len-olds.ensures.normal c.requires.leads in
+    let f = eval c.self.inside.func in
+    let values = ap (λ (k : Kept). k.values) c.self.view_is ∙ (c.requires.stands ∙ ap (λ (k : Kept). map (eval k.func) xs) (sym c.self.view_is)) in
+    c.in_ok-log.ensures.ok
+    ∙ (ap (λ es. played es c.self.inside.results.values) c.in_ok-plan.ensures.edits
+    ∙ (ap (λ vs. played (edits_of 0 (map (fate f) ps)) vs) values ∙ (delta_played f ps xs leads.starts ∙ ap (map f) (sym leads.ends))))

@@ -1,0 +1,10 @@
+use Rattle.std.proofs.Common.{◌≡◌, ◌≤◌, length, map, take}
+use Rattle.spec_lang.specs.Func.{eval}
+use Rattle.gl_function.proofs.function.Function.make.Given as goal
+
+-- the results so far, and room for those of all elements
+abbrev pub invariant-loop-place : goal.invariant-loop-place
+invariant-loop-place g l = record {
+  values : l.results.values ≡ map (eval l.fn.param) (take l.place (g.S.Shelf.items l.input));
+  room : length (g.S.Shelf.items l.input) ≤ l.results.room;
+}

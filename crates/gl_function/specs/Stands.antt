@@ -1,0 +1,32 @@
+-- What a function list stands for, and what its undos give back.
+use Rattle.std.specs.Prelude.{◌≡◌, List, length, map, unwrap_or}
+use Rattle.spec_value.specs.Tree.{Tree}
+use Rattle.spec_lang.specs.Func.{Func, eval}
+use Rattle.gl_kernel.specs.Edits.{played, CanPlay}
+use Rattle.gl_function.specs.Kept.{Kept}
+use Rattle.gl_function.specs.declared.function.FunctionUndo.{FunctionUndo}
+
+-- the list stands for an input: it keeps what its function makes of each of its elements
+abbrev pub StandsFor : Kept → List Tree → Type 0
+StandsFor k xs = k.values ≡ map (eval k.func) xs
+
+-- what a function list is, whatever its room
+pub record Contents : Type 0 where
+  pub func : Func
+  pub values : List Tree
+
+abbrev pub contents : Kept → Contents
+contents k = record { func = k.func; values = k.values }
+
+-- what an undo makes of a function list
+abbrev pub before : FunctionUndo → Kept → Contents
+before undo k = record { func = unwrap_or undo.func k.func; values = played undo.log.items k.values }
+
+-- the list has the room that the way back needs
+abbrev pub CanRetreat : FunctionUndo → Kept → Type 0
+CanRetreat undo k = CanPlay length k.room undo.log.items k.values
+
+-- the undo is of the list's last change: it leads back to what the list was, and there is the room for that
+pub record IsUndo (undo : FunctionUndo) (old new : Kept) : Type 0 where
+  pub back : before undo new ≡ contents old
+  pub can : CanRetreat undo new
