@@ -6,6 +6,8 @@ mod follow;
 mod keeps;
 mod range;
 mod slice;
+#[cfg(test)]
+mod tests;
 
 pub use gl_value::Memory;
 pub use range::{RangeKernel, RangeUndo};
