@@ -5,6 +5,8 @@
 mod change;
 mod follow;
 mod function;
+#[cfg(test)]
+mod tests;
 
 pub use function::{Function, FunctionUndo};
 pub use gl_value::Memory;

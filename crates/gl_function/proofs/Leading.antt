@@ -1,0 +1,48 @@
+-- Deltas that are built at their right end, and the old list made of the new one.
+use Rattle.std.specs.Prelude.{◌≡◌, List, [], ◌∷◌, ◌++◌, map, refl}
+use Rattle.std.proofs.Common.{ap, sym, ◌∙◌, subst}
+use Rattle.spec_value.specs.Tree.{Tree}
+use Rattle.spec_lists.specs.Piece.{Piece, kept, updated, deleted, inserted, turned, normal}
+use Rattle.spec_lists.specs.Leads.{LeadsFrom, applied, IsDelta}
+use Rattle.spec_lists.proofs.Leading.{leads_normal}
+
+-- one delta behind another leads between the lists behind one another
+side_by_side : (ps qs : List Piece) (xs us : List Tree) → LeadsFrom ps xs → LeadsFrom qs us → LeadsFrom (ps ++ qs) (xs ++ us) × (applied (ps ++ qs) (xs ++ us) ≡ applied ps xs ++ applied qs us)
+side_by_side [] qs [] us h k = (k, refl)
+side_by_side [] qs (x ∷ xs) us h k = absurd h
+side_by_side (kept ∷ ps) qs [] us h k = absurd h
+side_by_side (kept ∷ ps) qs (x ∷ xs) us h k = let g = side_by_side ps qs xs us h k in (g.0, ap (λ ys. x ∷ ys) g.1)
+side_by_side (updated v w ∷ ps) qs [] us h k = absurd h
+side_by_side (updated v w ∷ ps) qs (x ∷ xs) us h k = let g = side_by_side ps qs xs us h.1 k in ((h.0, g.0), ap (λ ys. w ∷ ys) g.1)
+side_by_side (deleted v ∷ ps) qs [] us h k = absurd h
+side_by_side (deleted v ∷ ps) qs (x ∷ xs) us h k = let g = side_by_side ps qs xs us h.1 k in ((h.0, g.0), g.1)
+side_by_side (inserted w ∷ ps) qs xs us h k = let g = side_by_side ps qs xs us h k in (g.0, ap (λ ys. w ∷ ys) g.1)
+
+pub row_more : (ps qs more : List Piece) (xs us xs2 ys ys2 : List Tree) → IsDelta ps xs ys → LeadsFrom qs us → more ≡ normal (ps ++ qs) → xs2 ≡ xs ++ us → ys2 ≡ ys ++ applied qs us → IsDelta more xs2 ys2
+row_more ps qs more xs us xs2 ys ys2 h k e f g =
+    let both = side_by_side ps qs xs us h.starts k in
+    let plain = leads_normal (ps ++ qs) (xs ++ us) both.0 in
+    let to : ys2 ≡ applied (normal (ps ++ qs)) (xs ++ us) = g ∙ (ap (λ zs. zs ++ applied qs us) h.ends ∙ (sym both.1 ∙ sym plain.1)) in
+    let ByPieces : List Piece → Type 0 = λ rs. IsDelta rs xs2 ys2 in
+    let ByOld : List Tree → Type 0 = λ zs. IsDelta (normal (ps ++ qs)) zs ys2 in
+    subst ByPieces (sym e) (subst ByOld (sym f) (record { starts = plain.0; ends = to }))
+
+cons : (a b : Tree) (us vs : List Tree) → a ≡ b → us ≡ vs → a ∷ us ≡ b ∷ vs
+cons a b us vs e f = cc
+
+-- a delta leads back from the list that it ends at
+leads_back : (ps : List Piece) (xs : List Tree) → LeadsFrom ps xs → LeadsFrom (map turned ps) (applied ps xs) × (applied (map turned ps) (applied ps xs) ≡ xs)
+leads_back [] [] h = (tt, refl)
+leads_back [] (x ∷ xs) h = absurd h
+leads_back (kept ∷ ps) [] h = absurd h
+leads_back (kept ∷ ps) (x ∷ xs) h = let g = leads_back ps xs h in (g.0, ap (λ ys. x ∷ ys) g.1)
+leads_back (updated v w ∷ ps) [] h = absurd h
+leads_back (updated v w ∷ ps) (x ∷ xs) h = let g = leads_back ps xs h.1 in ((refl, g.0), cons v x _ xs (sym h.0) g.1)
+leads_back (deleted v ∷ ps) [] h = absurd h
+leads_back (deleted v ∷ ps) (x ∷ xs) h = let g = leads_back ps xs h.1 in (g.0, cons v x _ xs (sym h.0) g.1)
+leads_back (inserted w ∷ ps) xs h = let g = leads_back ps xs h in ((refl, g.0), g.1)
+
+pub to_new : (ps : List Piece) (xs ys : List Tree) → IsDelta ps xs ys → LeadsFrom (map turned ps) ys × (applied (map turned ps) ys ≡ xs)
+to_new ps xs ys h =
+    let P : List Tree → Type 0 = λ zs. LeadsFrom (map turned ps) zs × (applied (map turned ps) zs ≡ xs) in
+    subst P (sym h.ends) (leads_back ps xs h.starts)
