@@ -2,4 +2,5 @@ pub mod Chosen
 pub mod Filter
 pub mod Function
 pub mod Range
+pub mod Source
 pub mod Rows

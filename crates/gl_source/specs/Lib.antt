@@ -1,0 +1,4 @@
+pub mod Kept
+pub mod Edits
+pub mod Stands
+pub mod Rows
