@@ -1,12 +1,13 @@
 //! A filter.
 
-ghost use Rattle.std.specs.Prelude.{◌≡◌, ◌+◌, ◌≤◌, List, length, map, slice_get, IfOk, OnOk, OnErr};
+ghost use Rattle.std.specs.Prelude.{◌≡◌, ◌+◌, ◌<◌, ◌≤◌, ◌↔◌, List, length, map, slice_get, IsSome, IfOk, OnOk, OnErr};
 ghost use Rattle.spec_value.specs.Tree.{Tree};
 ghost use Rattle.spec_lists.specs.Piece.{turned};
 ghost use Rattle.spec_lists.specs.Leads.{LeadsTo, applied};
 ghost use Rattle.spec_lang.specs.Kind.{Says};
 ghost use Rattle.spec_lang.specs.Matcher.{accepts};
 ghost use Rattle.spec_views.specs.Filter.{filter_view, filter_follow, filter_change};
+ghost use Rattle.gl_barcode.specs.Bars.{count_shown};
 ghost use Rattle.gl_kernel.specs.Found.{found};
 ghost use Rattle.gl_filter.specs.Told.{asked, change_cost};
 ghost use Rattle.gl_filter.specs.Stands.{StandsFor, contents, before, CanRetreat, IsUndo};
@@ -155,7 +156,9 @@ impl Filter {
 
     /// Where the element that is shown at a place stands, or `None` exactly where the place isn't below the length.
     pub fn find(&self, place: usize) -> Option<Find<'_>>
-        ensures { (xs : List Tree) → StandsFor self.now xs → found result xs ≡ slice_get (filter_view (accepts self.now.matcher) xs) place }
+        ensures some { IsSome result ↔ (place < count_shown self.now.shown) }
+        ensures found { (xs : List Tree) → StandsFor self.now xs
+            → found result xs ≡ slice_get (filter_view (accepts self.now.matcher) xs) place }
     {
         match self.marks.select(place) {
             Some(at) => Some(Find::Input(at)),
