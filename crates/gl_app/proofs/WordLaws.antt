@@ -9,7 +9,7 @@ use Rattle.gl_outside.specs.declared.gate.Actor.{Actor}
 use Rattle.gl_outside.specs.declared.gate.Actor.TheVariants.{Writer, Proxy}
 use Rattle.spec_texts.specs.Order.{spelled_actor, spelled_rest, spelled_order, IsActor, AsksReplay, HaveNoForm}
 use Rattle.gl_text.specs.Numbers.{index_in}
-use Rattle.gl_text.specs.Cuts.{cut, with_front}
+use Rattle.spec_texts.specs.Cuts.{cut, with_front}
 use Rattle.gl_text.proofs.CutLaws.{longer, lacks}
 use Rattle.gl_text.proofs.NumberLaws.{index_takes, index_again}
 use Rattle.gl_text.proofs.LineAgain.{decimal_lacks}

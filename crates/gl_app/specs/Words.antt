@@ -4,7 +4,7 @@ use Rattle.std.specs.declared.vec.Vec.{Vec}
 use Rattle.gl_outside.specs.declared.gate.Actor.{Actor}
 use Rattle.gl_outside.specs.declared.gate.Actor.TheVariants.{Writer, Proxy}
 use Rattle.gl_text.specs.Numbers.{index_in}
-use Rattle.gl_text.specs.Cuts.{with_front}
+use Rattle.spec_texts.specs.Cuts.{with_front}
 
 -- the actors of an order that was read
 abbrev pub entries_of : {X Y : Type 0} → Vec X Y → List X

@@ -10,7 +10,7 @@ use Rattle.gl_types.specs.declared.matcher.Matcher.TheVariants.{All, Nothing, Eq
 use Rattle.spec_value.specs.Name.{is_name}
 use Rattle.spec_texts.specs.Line.{Line, source_line, row_line, filter_line, listen_line, writer_line, section_line, add_line, insert_line, set_line, remove_line, spelled_matcher, spelled_line, FitsMatcher, IsLine}
 use Rattle.gl_text.specs.Numbers.{number_in, index_in}
-use Rattle.gl_text.specs.Cuts.{cut, behind}
+use Rattle.spec_texts.specs.Cuts.{cut, behind}
 use Rattle.gl_text.specs.Reading.{◌>>=◌, name_ahead, index_ahead, on_list, matcher_in, source_in, row_in, filter_in, listen_in, add_in, insert_in, set_in, remove_in, edit_in, fields_in, line_in}
 use Rattle.gl_text.proofs.CutLaws.{cut_takes}
 use Rattle.gl_text.proofs.NumberLaws.{number_takes, index_takes}

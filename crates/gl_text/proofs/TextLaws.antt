@@ -7,7 +7,7 @@ use Rattle.std.proofs.lemmas.Option.{none-some, same_Some}
 use Rattle.spec_runs.specs.Plan.{Plan}
 use Rattle.spec_texts.specs.Line.{Line, spelled_line, IsLine}
 use Rattle.spec_texts.specs.PlanText.{text_of, AreLines, with_line, with_lines, empty_plan, Spells}
-use Rattle.gl_text.specs.Cuts.{with_front, lines_in}
+use Rattle.spec_texts.specs.Cuts.{with_front, lines_in}
 use Rattle.gl_text.specs.Reading.{◌>>=◌, line_in, with_text, with_texts, plan_of_lines, plan_in}
 use Rattle.gl_text.proofs.CutLaws.{lacks, cut_again, lines_at}
 use Rattle.gl_text.proofs.LineLaws.{bind_some, chosen, same_bytes, line_takes}

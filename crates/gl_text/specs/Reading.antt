@@ -7,7 +7,7 @@ use Rattle.spec_runs.specs.Plan.{Plan}
 use Rattle.spec_texts.specs.Line.{Line, source_line, row_line, filter_line, listen_line, writer_line, section_line, add_line, insert_line, set_line, remove_line}
 use Rattle.spec_texts.specs.PlanText.{with_line, empty_plan}
 use Rattle.gl_text.specs.Numbers.{number_in, index_in}
-use Rattle.gl_text.specs.Cuts.{cut, behind, lines_in}
+use Rattle.spec_texts.specs.Cuts.{cut, behind, lines_in}
 
 infixl 10 ◌>>=◌
 abbrev pub ◌>>=◌ : {A B : Type 0} → Option A → (A → Option B) → Option B

@@ -1,7 +1,7 @@
 //! Bytes cut at a byte, and at each line feed.
 
 ghost use Rattle.std.specs.Prelude.{◌≡◌, ◌==◌, ◌<◌, [], ◌∷◌, length, option_map, position, MatchOption, IfSome};
-ghost use Rattle.gl_text.specs.Cuts.{cut, lines_in};
+ghost use Rattle.spec_texts.specs.Cuts.{cut, lines_in};
 
 /// The bytes ahead of the first that is this one, and those behind it.
 #[tactic(auto, using(crate::proofs::CutLaws::cut_none, crate::proofs::CutLaws::cut_some))]

@@ -3,7 +3,7 @@
 ghost use Rattle.std.specs.Prelude.{◌≡◌, ◌<◌, ◌≤◌, ◌∷◌, ℕ, List, length, IfOk, IfSome, IfNone};
 ghost use Rattle.spec_runs.specs.Plan.{Plan as PlanData, size, most_size};
 ghost use Rattle.spec_texts.specs.PlanText.{Spells, empty_plan};
-ghost use Rattle.gl_text.specs.Cuts.{lines_in};
+ghost use Rattle.spec_texts.specs.Cuts.{lines_in};
 ghost use Rattle.gl_text.specs.Reading.{with_text, with_texts, plan_of_lines, plan_in};
 
 use crate::build::with_line;

@@ -76,7 +76,7 @@ joins s b h k =
     by InEscape h comma quote return feed = absurd h
     by InComment h comma quote return feed = absurd h
 
-abbrev AllHigh : List ℕ → Type 0
+abbrev pub AllHigh : List ℕ → Type 0
 AllHigh [] = Unit {0}
 AllHigh (b ∷ bs) = (128 ≤ b) × AllHigh bs
 
@@ -92,12 +92,12 @@ four_bytes : (c : ℕ) → 65536 ≤ c → encode c ≡ (240 + c / 262144) ∷ (
 unfolding encode
 four_bytes c l = grind (arith, nat_tests)
 
-one_byte : (c : ℕ) → c < 128 → encode c ≡ c ∷ []
+pub one_byte : (c : ℕ) → c < 128 → encode c ≡ c ∷ []
 unfolding encode
 one_byte c h = grind (arith, nat_tests)
 
 -- all bytes of such a character
-high : (c : ℕ) → 128 ≤ c → AllHigh (encode c)
+pub high : (c : ℕ) → 128 ≤ c → AllHigh (encode c)
 high c h =
     elim (cases_lt c 2048) [
       | inl l ↦ subst AllHigh (sym (two_bytes c h l)) (omega arith, (omega arith, tt))

@@ -1,4 +1,5 @@
 pub mod Value
+pub mod Cuts
 pub mod Line
 pub mod PlanText
 pub mod Order

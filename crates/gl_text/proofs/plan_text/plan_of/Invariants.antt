@@ -1,7 +1,7 @@
 use Rattle.std.proofs.Common.{◌≡◌, ◌+◌, ◌≤◌, length}
 use Rattle.spec_runs.specs.Plan.{size, most_size}
 use Rattle.spec_texts.specs.PlanText.{empty_plan}
-use Rattle.gl_text.specs.Cuts.{lines_in}
+use Rattle.spec_texts.specs.Cuts.{lines_in}
 use Rattle.gl_text.specs.Reading.{with_texts}
 use Rattle.gl_text.proofs.plan_text.plan_of.Given as goal
 
