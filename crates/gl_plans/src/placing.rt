@@ -12,17 +12,19 @@ use gl_lines::{Line, Lines, Misplaced, PlanKind};
 
 /// What the lines before a line hold, as far as the places of lines go.
 #[derive(Clone, Copy)]
-struct Before {
-    limited: bool,
-    written: bool,
-    open_section: bool,
-    lists: usize,
-    listeners: usize,
-    writers: usize,
+pub struct Before {
+    pub limited: bool,
+    pub written: bool,
+    /// Whether the last writer has a section.
+    pub open_section: bool,
+    pub lists: usize,
+    pub listeners: usize,
+    pub writers: usize,
 }
 
 impl Before {
-    fn nothing() -> Before
+    /// No lines.
+    pub fn nothing() -> Before
         ensures { StandsBehind result [] }
     {
         Before {
@@ -53,7 +55,8 @@ impl Before {
             || (is_writer(line) && self.writers == 64)
     }
 
-    fn fault(&self, line: &Line) -> Option<PlanKind>
+    /// What is wrong with the place of a line behind them, if anything is.
+    pub fn fault(&self, line: &Line) -> Option<PlanKind>
         ensures { (lines : List Numbered) → StandsBehind self.now lines → result ≡ place_fault lines line.now }
     {
         if self.is_out_of_place(line) {
@@ -65,7 +68,8 @@ impl Before {
         }
     }
 
-    fn with(&self, line: &Line) -> Before
+    /// The lines with one more.
+    pub fn with(&self, line: &Line) -> Before
         requires lists { self.now.lists < 2 ^ 63 }
         requires listeners { self.now.listeners < 2 ^ 63 }
         requires writers { self.now.writers < 2 ^ 63 }

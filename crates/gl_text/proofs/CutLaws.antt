@@ -1,12 +1,12 @@
 -- What is cut is put together again, and what has no such byte inside is cut there.
-use Rattle.std.proofs.Common.{◌≡◌, ℕ, suc, ◌+◌, ◌-◌, ◌<◌, Bool, true, false, not, ◌&&◌, cond, eqb, ltb, List, [], ◌∷◌, ◌++◌, length, take, drop, Option, Some, None, refl, sym, ap, subst, ◌∙◌, arith, length-append}
+use Rattle.std.proofs.Common.{◌≡◌, ℕ, suc, ◌+◌, ◌-◌, ◌<◌, Bool, true, false, not, ◌&&◌, cond, eqb, ltb, List, [], ◌∷◌, ◌++◌, length, take, drop, Option, Some, None, refl, sym, ap, subst, ◌∙◌, inl, inr, arith, length-append}
 use Rattle.std.specs.Prelude.{option_map, position}
 use Rattle.std.specs.List.{prefix_len}
 use Rattle.std.proofs.lemmas.Bool.{eqb-true, eq-eqb, lt-ltb, and_parts, and_from, not-true}
 use Rattle.std.proofs.lemmas.Bool.Decides.{nat_tests}
 use Rattle.std.proofs.lemmas.Grind.{common_steps}
 use Rattle.std.proofs.lemmas.Option.{same_Some, none-some}
-use Rattle.spec_texts.specs.Cuts.{cut, with_front, lines_in}
+use Rattle.spec_texts.specs.Cuts.{cut, with_front, lines_in, IsFirstLine}
 
 -- parts with a byte more at the front
 abbrev pub longer : ℕ → Option (List ℕ × List ℕ) → Option (List ℕ × List ℕ)
@@ -99,3 +99,9 @@ lines_of_one b (d ∷ bs) e = one_line_at b (d ∷ bs) (eqb b 10) (cut 10 (d ∷
 pub lines_without : (bs : List ℕ) → (length bs ≡ 0 → ⊥) → None ≡ cut 10 bs → lines_in bs ≡ bs ∷ []
 lines_without [] some e = absurd (some refl)
 lines_without (b ∷ bs) some e = lines_of_one b bs (sym e)
+
+pub first_cut : (bs u v : List ℕ) → Some (u, v) ≡ cut 10 bs → IsFirstLine bs u v
+first_cut bs u v e = inl (cut_takes 10 bs (u, v) (sym e))
+
+pub first_last : (bs : List ℕ) → IsFirstLine bs bs []
+first_last bs = inr (refl, refl)

@@ -11,7 +11,7 @@ mod number;
 mod plan_text;
 
 pub use block::block_rows;
-pub use cuts::cut;
+pub use cuts::{cut, next_line};
 pub use gl_plan::Plan;
 pub use gl_syntax::{ReadFault, read_value, write_value};
 pub use number::index;

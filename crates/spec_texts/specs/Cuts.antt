@@ -1,5 +1,5 @@
 -- How bytes are cut: at a byte, behind a beginning, and at each line feed.
-use Rattle.std.specs.Prelude.{ℕ, ◌==◌, if◌then◌else◌, List, [], ◌∷◌, length, take, drop, Option, Some, None, option_map, bytes_eq}
+use Rattle.std.specs.Prelude.{◌≡◌, ◌⊎◌, ◌++◌, ℕ, ◌==◌, if◌then◌else◌, List, [], ◌∷◌, length, take, drop, Option, Some, None, option_map, bytes_eq}
 
 -- the bytes ahead of the first that is this one, and those behind it; none where it doesn't stand
 abbrev pub cut : ℕ → List ℕ → Option (List ℕ × List ℕ)
@@ -19,3 +19,7 @@ with_front b (line ∷ lines) = (b ∷ line) ∷ lines
 abbrev pub lines_in : List ℕ → List (List ℕ)
 lines_in [] = []
 lines_in (b ∷ bs) = if b == 10 then [] ∷ lines_in bs else with_front b (lines_in bs)
+
+-- the line stands in front, and the rest behind its line feed; a last line may lack one
+abbrev pub IsFirstLine : List ℕ → List ℕ → List ℕ → Type 0
+IsFirstLine bytes line rest = (bytes ≡ line ++ 10 ∷ rest) ⊎ ((bytes ≡ line) × (rest ≡ []))
