@@ -28,6 +28,14 @@ pub data Mode : Type 0 where
 abbrev pub most_bytes : ℕ
 most_bytes = 1048576
 
+-- the bytes spell the line, and no other
+unfoldable pub SpellsLine : List ℕ → Line → Type 0
+SpellsLine raw l = Spell line_of_text raw l
+
+-- the bytes spell no line, and leave the lines of the language in that column
+unfoldable pub LeavesLines : List ℕ → ℕ → Type 0
+LeavesLines raw column = Leaves line_of_text raw column
+
 -- a line that is empty or a comment says nothing
 abbrev pub IsSkipped : List ℕ → Type 0
 IsSkipped raw = (raw ≡ []) ⊎ ((comment : List ℕ) × (raw ≡ codes "#" ++ comment))
@@ -59,26 +67,26 @@ pub data Comes : Mode → List NumberedLine → ℕ → List (List ℕ) → Outc
     → IsSkipped raw
     → Comes outside before (suc n) raws out
     → Comes outside before n (raw ∷ raws) out
-  formless : {before : List NumberedLine} {n : ℕ} {raw : List ℕ} {raws : List (List ℕ)} {column : ℕ}
+  formless : {before : List NumberedLine} {n : ℕ} {raw : List ℕ} {raws : List (List ℕ)} (column : ℕ)
     → length raw ≤ most_bytes
     → ¬ IsSkipped raw
-    → Leaves line_of_text raw column
+    → LeavesLines raw column
     → Comes outside before n (raw ∷ raws) (fault n column Form)
-  misplaced : {before : List NumberedLine} {n : ℕ} {raw : List ℕ} {raws : List (List ℕ)} {l : Line} {kind : PlanKind}
+  misplaced : {before : List NumberedLine} {n : ℕ} {raw : List ℕ} {raws : List (List ℕ)} (l : Line) {kind : PlanKind}
     → length raw ≤ most_bytes
-    → Spell line_of_text raw l
+    → SpellsLine raw l
     → place_fault before l ≡ Some kind
     → Comes outside before n (raw ∷ raws) (fault n 1 kind)
-  plain : {before : List NumberedLine} {n : ℕ} {raw : List ℕ} {raws : List (List ℕ)} {l : Line} {out : Outcome}
+  plain : {before : List NumberedLine} {n : ℕ} {raw : List ℕ} {raws : List (List ℕ)} (l : Line) {out : Outcome}
     → length raw ≤ most_bytes
-    → Spell line_of_text raw l
+    → SpellsLine raw l
     → place_fault before l ≡ None
     → opened_by l ≡ None
     → Comes outside (before ++ numbered n l ∷ []) (suc n) raws out
     → Comes outside before n (raw ∷ raws) out
-  opening : {before : List NumberedLine} {n : ℕ} {raw : List ℕ} {raws : List (List ℕ)} {l : Line} {named : Named} {out : Outcome}
+  opening : {before : List NumberedLine} {n : ℕ} {raw : List ℕ} {raws : List (List ℕ)} (l : Line) {named : Named} {out : Outcome}
     → length raw ≤ most_bytes
-    → Spell line_of_text raw l
+    → SpellsLine raw l
     → place_fault before l ≡ None
     → opened_by l ≡ Some named
     → Comes (inside n named []) (before ++ numbered n l ∷ []) (suc n) raws out
