@@ -192,7 +192,7 @@ fn follows<L: Ledger>(
     Ok(opened && followed && shows(&list, shown.0))
 }
 
-// Each case: a change of the list, what is told of it where the function adds 10, and what is shown before and behind it.
+// Each case: a change of the list, what is told where the function adds 10, and what is shown before and behind it.
 #[test]
 fn changes_of_the_list(rt: HostRuntime) -> Result<(), Fail> {
     for (rows, told, before, after) in [
