@@ -19,7 +19,6 @@ mod tests;
 pub use gl_lines::{Line, Lines, Misplaced, Named, NamedList, NumberedLine, PlanKind};
 pub use judging::first_fault;
 pub use names::NameTable;
-pub use placing::misplaced;
 pub use placing::{Before, misplaced};
 pub use spec_plans::FaultAt;
 pub use tables::{names_of_listeners, names_of_lists};
