@@ -5,6 +5,8 @@
 mod change;
 mod filter;
 mod follow;
+#[cfg(test)]
+mod tests;
 
 pub use filter::{Filter, FilterUndo};
 pub use gl_value::Memory;
