@@ -2,7 +2,7 @@
 use Rattle.std.specs.Prelude.{◌≡◌, ℕ, suc, ◌+◌, ◌-◌, ◌<◌, ◌≤◌, List, length}
 use Rattle.std.proofs.Common.{ap, sym, ◌∙◌, arith}
 use Rattle.spec_value.specs.Tree.{Tree}
-use Rattle.spec_lists.specs.Piece.{new_len}
+use Rattle.spec_lists.specs.Piece.{Piece, new_len}
 use Rattle.spec_lists.specs.Leads.{IsDelta}
 use Rattle.spec_lists.proofs.Leading.{length-applied}
 use Rattle.spec_lists.proofs.Editing.{insert_leads, set_leads, remove_leads, append_leads, clear_leads}
@@ -23,5 +23,9 @@ edit_leads (Set index value) xs h = set_leads xs index (length xs - suc index) v
 edit_leads (Remove index) xs h = remove_leads xs index (length xs - suc index) (below_by index (length xs) h)
 edit_leads Clear xs h = clear_leads xs
 
+-- a delta's new side is as long as the list that it leads to
+pub new_len_is : (ps : List Piece) (xs ys : List Tree) → IsDelta ps xs ys → new_len ps ≡ length ys
+new_len_is ps xs ys d = sym (ap length d.ends ∙ length-applied ps xs d.starts)
+
 pub told_len : (e : Edit) (xs : List Tree) → ¬ IsOutside e xs → new_len (told e xs) ≡ length (edited e xs)
-told_len e xs h = let d = edit_leads e xs h in sym (ap length d.ends ∙ length-applied (told e xs) xs d.starts)
+told_len e xs h = new_len_is (told e xs) xs (edited e xs) (edit_leads e xs h)

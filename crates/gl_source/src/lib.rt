@@ -8,6 +8,8 @@ mod log;
 mod refusal;
 mod source;
 mod telling;
+#[cfg(test)]
+mod tests;
 
 pub use edit::Edit;
 pub use fault::{EditFault, OpenFault};

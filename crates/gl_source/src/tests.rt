@@ -1,0 +1,227 @@
+ghost use Rattle.std.specs.Prelude.{◌≤◌};
+ghost use Rattle.spec_lists.specs.Piece.{new_len};
+ghost use Rattle.spec_lists.specs.Leads.{LeadsFrom};
+
+use crate::{Edit, EditFault, OpenFault, SourceList};
+use gl_delta::{CellRef, Delta};
+use gl_value::{Shelf, Value, Values};
+use std::alloc::{AllocError, Global};
+use std::process::Abort;
+use std::test::Fail;
+
+// An edit, its values numbers.
+#[derive(Clone, Copy)]
+enum Step {
+    Append(&'static [i64]),
+    Insert(u64, i64),
+    Set(u64, i64),
+    Remove(u64),
+    Clear,
+}
+
+// A cell that is told.
+#[derive(Clone, Copy)]
+enum Told {
+    Keep(usize),
+    Update(i64, i64),
+    Delete(i64),
+    Insert(i64),
+}
+
+// What an edit answers: what it tells and the numbers that it leaves, or why it is refused.
+#[derive(Clone, Copy)]
+enum Answer {
+    Done(&'static [Told], &'static [i64]),
+    OutOfRange(u64, u64),
+    TooLong(u128),
+}
+
+fn is_number(v: &Value, n: i64) -> bool {
+    v.same(&Value::num(n))
+}
+
+fn is_told(cell: CellRef<'_>, told: Told) -> bool {
+    match (cell, told) {
+        (CellRef::Keep(n), Told::Keep(m)) => n == m,
+        (CellRef::Update(v, w), Told::Update(a, b)) => is_number(v, a) && is_number(w, b),
+        (CellRef::Delete(v), Told::Delete(a)) => is_number(v, a),
+        (CellRef::Insert(w), Told::Insert(b)) => is_number(w, b),
+        _ => false,
+    }
+}
+
+fn tells(delta: &Delta, told: &[Told]) -> bool {
+    let mut cells = delta.cells();
+    for one in told {
+        match cells.next() {
+            Some(cell) => {
+                if !is_told(cell, *one) {
+                    return false;
+                }
+            }
+            None => return false,
+        }
+    }
+    cells.next().is_none()
+}
+
+fn shows_at(source: &SourceList, place: usize, n: i64) -> bool {
+    match source.get(place) {
+        Some(v) => is_number(v, n),
+        None => false,
+    }
+}
+
+fn shows(source: &SourceList, numbers: &[i64]) -> bool {
+    for (place, n) in numbers.iter().enumerate() {
+        if !shows_at(source, place, *n) {
+            return false;
+        }
+    }
+    source.len() == numbers.len() && source.get(numbers.len()).is_none()
+}
+
+fn values(alloc: Global, numbers: &[i64]) -> Result<Values, AllocError> {
+    let mut list = Values::new(alloc);
+    for n in numbers {
+        if list.push(Value::num(*n)).is_err() {
+            return Err(AllocError);
+        }
+    }
+    Ok(list)
+}
+
+fn edit(alloc: Global, step: Step) -> Result<Edit, AllocError> {
+    match step {
+        Step::Append(numbers) => Ok(Edit::Append {
+            values: values(alloc, numbers)?,
+        }),
+        Step::Insert(index, n) => Ok(Edit::Insert {
+            index,
+            value: Value::num(n),
+        }),
+        Step::Set(index, n) => Ok(Edit::Set {
+            index,
+            value: Value::num(n),
+        }),
+        Step::Remove(index) => Ok(Edit::Remove { index }),
+        Step::Clear => Ok(Edit::Clear),
+    }
+}
+
+// The source makes what was told, and goes back.
+fn makes(
+    rt: &impl Abort,
+    source: &mut SourceList,
+    d: &Delta,
+    numbers: &[i64],
+) -> Result<(), AllocError>
+    requires leads { LeadsFrom d.now.pieces source.old.values }
+    requires within { new_len d.now.pieces ≤ source.old.limit }
+{
+    let undo = source.apply(d)?;
+    assert!(rt; shows(source, numbers));
+    source.retreat(undo);
+    assert!(rt; shows(source, &[5, 9]));
+    Ok(())
+}
+
+// A source of [5, 9] is edited and goes back, and then makes what the edit told.
+fn answers(
+    rt: &impl Abort,
+    source: &mut SourceList,
+    e: Edit,
+    answer: Answer,
+) -> Result<(), AllocError> {
+    match source.edit(e) {
+        Ok((d, undo)) => {
+            let Answer::Done(told, numbers) = answer else {
+                panic!(rt; "it wasn't refused");
+            };
+            let _within = source.limit();
+            assert!(rt; tells(&d, told) && shows(source, numbers));
+            source.retreat(undo);
+            assert!(rt; shows(source, &[5, 9]));
+            makes(rt, source, &d, numbers)
+        }
+        Err(fault) => {
+            assert!(rt; is_refusal(fault, answer) && shows(source, &[5, 9]));
+            Ok(())
+        }
+    }
+}
+
+fn is_refusal(fault: EditFault, answer: Answer) -> bool {
+    match (fault, answer) {
+        (EditFault::OutOfRange { index, len }, Answer::OutOfRange(i, n)) => index == i && len == n,
+        (EditFault::TooLong { len }, Answer::TooLong(n)) => len == n,
+        _ => false,
+    }
+}
+
+#[test]
+fn edits(rt: HostRuntime) -> Result<(), Fail> {
+    let rows = values(rt.alloc(), &[5, 9])?;
+    for (limit, step, answer) in [
+        (
+            4u64,
+            Step::Append(&[1, 2]),
+            Answer::Done(
+                &[Told::Keep(2), Told::Insert(1), Told::Insert(2)],
+                &[5, 9, 1, 2],
+            ),
+        ),
+        (
+            2,
+            Step::Append(&[]),
+            Answer::Done(&[Told::Keep(2)], &[5, 9]),
+        ),
+        (4, Step::Append(&[1, 2, 3]), Answer::TooLong(5)),
+        (
+            3,
+            Step::Insert(2, 1),
+            Answer::Done(&[Told::Keep(2), Told::Insert(1)], &[5, 9, 1]),
+        ),
+        (
+            3,
+            Step::Insert(0, 1),
+            Answer::Done(&[Told::Insert(1), Told::Keep(2)], &[1, 5, 9]),
+        ),
+        (2, Step::Insert(0, 1), Answer::TooLong(3)),
+        // the index is looked at first
+        (2, Step::Insert(3, 1), Answer::OutOfRange(3, 2)),
+        (
+            2,
+            Step::Set(1, 9),
+            Answer::Done(&[Told::Keep(1), Told::Update(9, 9)], &[5, 9]),
+        ),
+        (9, Step::Set(2, 1), Answer::OutOfRange(2, 2)),
+        (
+            2,
+            Step::Remove(0),
+            Answer::Done(&[Told::Delete(5), Told::Keep(1)], &[9]),
+        ),
+        (9, Step::Remove(u64::MAX), Answer::OutOfRange(u64::MAX, 2)),
+        (
+            2,
+            Step::Clear,
+            Answer::Done(&[Told::Delete(5), Told::Delete(9)], &[]),
+        ),
+    ] {
+        let mut source = SourceList::make(rt.alloc(), &rows, limit)?;
+        answers(&rt, &mut source, edit(rt.alloc(), step)?, answer)?;
+    }
+    Ok(())
+}
+
+#[test]
+fn rows_past_the_limit(rt: HostRuntime) -> Result<(), Fail> {
+    let rows = values(rt.alloc(), &[5, 9])?;
+    match SourceList::make(rt.alloc(), &rows, 1) {
+        Err(OpenFault::TooLong { len }) => {
+            assert_eq!(rt; len, 2);
+            Ok(())
+        }
+        _ => panic!(rt; "another answer"),
+    }
+}
