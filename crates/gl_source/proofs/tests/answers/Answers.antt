@@ -1,4 +1,4 @@
-use Rattle.std.proofs.Common.{◌≤◌, arith}
+use Rattle.std.proofs.Common.{arith}
 use Rattle.gl_source.proofs.Leading.{new_len_is}
 use Rattle.gl_source.proofs.tests.answers.Goals as goal
 
