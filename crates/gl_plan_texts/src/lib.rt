@@ -6,6 +6,8 @@ mod block;
 mod plan;
 mod reading;
 mod stop;
+#[cfg(test)]
+mod tests;
 
 pub use gl_whole_plan::{Plan, PlanFault};
 pub use plan::read_plan;
