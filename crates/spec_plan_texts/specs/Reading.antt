@@ -60,44 +60,44 @@ rows_of number named rows = map (λ row. numbered number (Row named row)) rows
 pub data Comes : Mode → List NumberedLine → ℕ → List (List ℕ) → Outcome → Type 0 where
   at_end : {before : List NumberedLine} {n : ℕ} → Comes outside before n [] (all_read before)
   long : {before : List NumberedLine} {n : ℕ} {raw : List ℕ} {raws : List (List ℕ)}
-    → most_bytes < length raw
-    → Comes outside before n (raw ∷ raws) (fault n (most_bytes + 1) LongLine)
+      → most_bytes < length raw
+      → Comes outside before n (raw ∷ raws) (fault n (most_bytes + 1) LongLine)
   skipped : {before : List NumberedLine} {n : ℕ} {raw : List ℕ} {raws : List (List ℕ)} {out : Outcome}
-    → length raw ≤ most_bytes
-    → IsSkipped raw
-    → Comes outside before (suc n) raws out
-    → Comes outside before n (raw ∷ raws) out
+      → length raw ≤ most_bytes
+      → IsSkipped raw
+      → Comes outside before (suc n) raws out
+      → Comes outside before n (raw ∷ raws) out
   formless : {before : List NumberedLine} {n : ℕ} {raw : List ℕ} {raws : List (List ℕ)} (column : ℕ)
-    → length raw ≤ most_bytes
-    → ¬ IsSkipped raw
-    → LeavesLines raw column
-    → Comes outside before n (raw ∷ raws) (fault n column Form)
+      → length raw ≤ most_bytes
+      → ¬ IsSkipped raw
+      → LeavesLines raw column
+      → Comes outside before n (raw ∷ raws) (fault n column Form)
   misplaced : {before : List NumberedLine} {n : ℕ} {raw : List ℕ} {raws : List (List ℕ)} (l : Line) {kind : PlanKind}
-    → length raw ≤ most_bytes
-    → SpellsLine raw l
-    → place_fault before l ≡ Some kind
-    → Comes outside before n (raw ∷ raws) (fault n 1 kind)
+      → length raw ≤ most_bytes
+      → SpellsLine raw l
+      → place_fault before l ≡ Some kind
+      → Comes outside before n (raw ∷ raws) (fault n 1 kind)
   plain : {before : List NumberedLine} {n : ℕ} {raw : List ℕ} {raws : List (List ℕ)} (l : Line) {out : Outcome}
-    → length raw ≤ most_bytes
-    → SpellsLine raw l
-    → place_fault before l ≡ None
-    → opened_by l ≡ None
-    → Comes outside (before ++ numbered n l ∷ []) (suc n) raws out
-    → Comes outside before n (raw ∷ raws) out
+      → length raw ≤ most_bytes
+      → SpellsLine raw l
+      → place_fault before l ≡ None
+      → opened_by l ≡ None
+      → Comes outside (before ++ numbered n l ∷ []) (suc n) raws out
+      → Comes outside before n (raw ∷ raws) out
   opening : {before : List NumberedLine} {n : ℕ} {raw : List ℕ} {raws : List (List ℕ)} (l : Line) {named : Named} {out : Outcome}
-    → length raw ≤ most_bytes
-    → SpellsLine raw l
-    → place_fault before l ≡ None
-    → opened_by l ≡ Some named
-    → Comes (inside n named []) (before ++ numbered n l ∷ []) (suc n) raws out
-    → Comes outside before n (raw ∷ raws) out
+      → length raw ≤ most_bytes
+      → SpellsLine raw l
+      → place_fault before l ≡ None
+      → opened_by l ≡ Some named
+      → Comes (inside n named []) (before ++ numbered n l ∷ []) (suc n) raws out
+      → Comes outside before n (raw ∷ raws) out
   in_block : {before : List NumberedLine} {n m : ℕ} {named : Named} {block raw : List ℕ} {raws : List (List ℕ)} {out : Outcome}
-    → ¬ (raw ≡ codes "end csv")
-    → Comes (inside m named (block ++ raw ++ 10 ∷ [])) before (suc n) raws out
-    → Comes (inside m named block) before n (raw ∷ raws) out
+      → ¬ (raw ≡ codes "end csv")
+      → Comes (inside m named (block ++ raw ++ 10 ∷ [])) before (suc n) raws out
+      → Comes (inside m named block) before n (raw ∷ raws) out
   closing : {before : List NumberedLine} {n m : ℕ} {named : Named} {block : List ℕ} {rows : List Tree} {raws : List (List ℕ)} {out : Outcome}
-    → BlockHas block rows
-    → Comes outside (before ++ rows_of m named rows) (suc n) raws out
-    → Comes (inside m named block) before n (codes "end csv" ∷ raws) out
+      → BlockHas block rows
+      → Comes outside (before ++ rows_of m named rows) (suc n) raws out
+      → Comes (inside m named block) before n (codes "end csv" ∷ raws) out
   endless : {before : List NumberedLine} {n m : ℕ} {named : Named} {block : List ℕ}
-    → Comes (inside m named block) before n [] (fault m 1 Block)
+      → Comes (inside m named block) before n [] (fault m 1 Block)

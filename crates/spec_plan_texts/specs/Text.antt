@@ -43,7 +43,7 @@ pub record SpellsPlan (bytes : List ℕ) (p : Plan) : Type 0 where
 pub data FirstFault (bytes : List ℕ) : FaultAt → Type 0 where
   no_utf8 : ¬ IsUtf8 bytes → FirstFault bytes (utf8_fault bytes)
   no_header : IsUtf8 bytes → ((raws : List (List ℕ)) → ¬ (lines_in bytes ≡ codes "glaze 1" ∷ raws))
-    → FirstFault bytes (record { line = 1; column = 1; kind = Header })
+      → FirstFault bytes (record { line = 1; column = 1; kind = Header })
   in_line : {f : FaultAt} → ReadsTo bytes (stopped f) → FirstFault bytes f
   in_names : {f : FaultAt} {lines : List NumberedLine} → ReadsTo bytes (all_read lines) → first_fault_at lines ≡ Some f → FirstFault bytes f
 
