@@ -12,7 +12,7 @@ use crate::form::{
     name_values, names_bounds, names_func, names_matcher, names_order, names_path, one_name,
     two_names,
 };
-use crate::name::{add_after, add_may, add_name, add_names};
+use crate::name::{add_after, add_may, add_name, add_names, bytes_of};
 use gl_lines::{Line, Named, NamedList};
 use gl_syntax::{Bytes, Memory, add_number};
 use std::alloc::Global;
@@ -39,9 +39,9 @@ pub fn add_line(line: &Line, out: &mut Bytes) -> Result<(), Memory>
 {
     match line {
         Line::Limit { limit } => add_limit(*limit, out),
-        Line::Source { name } => one_name(b"source", name, out),
-        Line::Row { list, value } => name_value(b"row", list, value, out),
-        Line::Csv { list } => one_name(b"csv", list, out),
+        Line::Source { name } => one_name(b"source", bytes_of(name), out),
+        Line::Row { list, value } => name_value(b"row", bytes_of(list), value, out),
+        Line::Csv { list } => one_name(b"csv", bytes_of(list), out),
         Line::EndCsv => out.push_all(b"end csv"),
         Line::Listen {
             name,
@@ -65,23 +65,63 @@ fn add_over(line: &Line, out: &mut Bytes) -> Result<(), Memory>
             name,
             input,
             matcher,
-        } => names_matcher(b"filter", name, input, matcher, out),
-        Line::Sorted { name, input, order } => names_order(b"sorted", name, input, order, out),
-        Line::Unique { name, input, order } => names_order(b"unique", name, input, order, out),
-        Line::Grouping { name, input, order } => names_order(b"grouping", name, input, order, out),
+        } => names_matcher(b"filter", bytes_of(name), bytes_of(input), matcher, out),
+        Line::Sorted { name, input, order } => names_order(
+            b"sorted",
+            bytes_of(name),
+            bytes_of(input),
+            order,
+            out,
+        ),
+        Line::Unique { name, input, order } => names_order(
+            b"unique",
+            bytes_of(name),
+            bytes_of(input),
+            order,
+            out,
+        ),
+        Line::Grouping { name, input, order } => names_order(
+            b"grouping",
+            bytes_of(name),
+            bytes_of(input),
+            order,
+            out,
+        ),
         Line::Range {
             name,
             input,
             bounds,
-        } => names_bounds(b"range", name, input, *bounds, out),
-        Line::Function { name, input, func } => names_func(b"function", name, input, func, out),
+        } => names_bounds(b"range", bytes_of(name), bytes_of(input), *bounds, out),
+        Line::Function { name, input, func } => names_func(
+            b"function",
+            bytes_of(name),
+            bytes_of(input),
+            func,
+            out,
+        ),
         Line::Collection { name, input, kids } => {
-            names_path(b"collection", name, input, &kids.path, out)
+            names_path(
+                b"collection",
+                bytes_of(name),
+                bytes_of(input),
+                &kids.path,
+                out,
+            )
         }
         Line::Composite { name, members, may } => add_composite(name, members, may, out),
-        Line::Transaction { name, input } => two_names(b"transaction", name, input, out),
-        Line::Freezable { name, input } => two_names(b"freezable", name, input, out),
-        Line::Proxy { name, input } => two_names(b"proxy", name, input, out),
+        Line::Transaction { name, input } => two_names(
+            b"transaction",
+            bytes_of(name),
+            bytes_of(input),
+            out,
+        ),
+        Line::Freezable { name, input } => two_names(
+            b"freezable",
+            bytes_of(name),
+            bytes_of(input),
+            out,
+        ),
+        Line::Proxy { name, input } => two_names(b"proxy", bytes_of(name), bytes_of(input), out),
         _ => add_command(line, out),
     }
 }
@@ -91,31 +131,43 @@ fn add_command(line: &Line, out: &mut Bytes) -> Result<(), Memory>
     ensures { OnOk result (out.new ≡ out.old ++ spelled_line line.now) }
 {
     match line {
-        Line::Add { list, value } => name_value(b"add", list, value, out),
-        Line::AddAll { list, values } => name_values(b"addall", list, values, out),
+        Line::Add { list, value } => name_value(b"add", bytes_of(list), value, out),
+        Line::AddAll { list, values } => name_values(b"addall", bytes_of(list), values, out),
         Line::Insert { list, index, value } => {
-            name_index_value(b"insert", list, *index, value, out)
+            name_index_value(b"insert", bytes_of(list), *index, value, out)
         }
-        Line::Set { list, index, value } => name_index_value(b"set", list, *index, value, out),
-        Line::Remove { list, index } => name_index(b"remove", list, *index, out),
-        Line::Clear { list } => one_name(b"clear", list, out),
-        Line::Match { list, matcher } => name_matcher(b"match", list, matcher, out),
-        Line::Order { list, order } => name_order(b"order", list, order, out),
-        Line::Bounds { list, bounds } => name_bounds(b"bounds", list, *bounds, out),
-        Line::Apply { list, func } => name_func(b"apply", list, func, out),
-        Line::Attach { list, member } => two_names(b"attach", list, member, out),
-        Line::Detach { list, index } => name_index(b"detach", list, *index, out),
-        Line::Begin { list } => one_name(b"begin", list, out),
-        Line::Commit { list } => one_name(b"commit", list, out),
-        Line::Rollback { list } => one_name(b"rollback", list, out),
-        Line::Freeze { list } => one_name(b"freeze", list, out),
-        Line::Thaw { list } => one_name(b"thaw", list, out),
-        Line::Show { list } => one_name(b"show", list, out),
+        Line::Set { list, index, value } => name_index_value(
+            b"set",
+            bytes_of(list),
+            *index,
+            value,
+            out,
+        ),
+        Line::Remove { list, index } => name_index(b"remove", bytes_of(list), *index, out),
+        Line::Clear { list } => one_name(b"clear", bytes_of(list), out),
+        Line::Match { list, matcher } => name_matcher(b"match", bytes_of(list), matcher, out),
+        Line::Order { list, order } => name_order(b"order", bytes_of(list), order, out),
+        Line::Bounds { list, bounds } => name_bounds(b"bounds", bytes_of(list), *bounds, out),
+        Line::Apply { list, func } => name_func(b"apply", bytes_of(list), func, out),
+        Line::Attach { list, member } => two_names(
+            b"attach",
+            bytes_of(list),
+            bytes_of(member),
+            out,
+        ),
+        Line::Detach { list, index } => name_index(b"detach", bytes_of(list), *index, out),
+        Line::Begin { list } => one_name(b"begin", bytes_of(list), out),
+        Line::Commit { list } => one_name(b"commit", bytes_of(list), out),
+        Line::Rollback { list } => one_name(b"rollback", bytes_of(list), out),
+        Line::Freeze { list } => one_name(b"freeze", bytes_of(list), out),
+        Line::Thaw { list } => one_name(b"thaw", bytes_of(list), out),
+        Line::Show { list } => one_name(b"show", bytes_of(list), out),
         _ => unreachable!(),
     }
 }
 
-fn add_limit(limit: u64, out: &mut Bytes) -> Result<(), Memory>
+/// Adds the line of the limit, with no line feed. Where memory runs out part of it may be added.
+pub fn add_limit(limit: u64, out: &mut Bytes) -> Result<(), Memory>
     ensures { OnOk result (out.new ≡ out.old ++ spelled_line (meant.Limit limit)) }
 {
     out.push_all(b"limit ")?;
@@ -145,8 +197,8 @@ fn add_listen(
 ) -> Result<(), Memory>
     ensures { OnOk result (out.new ≡ out.old ++ spelled_line (meant.Listen name.now list.now after.now echo)) }
 {
-    one_name(b"listen", name, out)?;
-    one_name(b" on", list, out)?;
+    one_name(b"listen", bytes_of(name), out)?;
+    one_name(b" on", bytes_of(list), out)?;
     add_after(after.as_slice(), out)?;
     if echo {
         return out.push_all(b" echo");

@@ -7,10 +7,16 @@ ghost use Rattle.gl_line_spelling.specs.Pieces.{spaced_name, name_behind_comma};
 use gl_lines::Named;
 use gl_syntax::{Bytes, Memory};
 
+pub(crate) fn bytes_of(named: &Named) -> &[u8]
+    ensures { result.now ≡ named.now.name }
+{
+    named.name.text().bytes()
+}
+
 pub(crate) fn add_name(named: &Named, out: &mut Bytes) -> Result<(), Memory>
     ensures { OnOk result (out.new ≡ out.old ++ named.now.name) }
 {
-    out.push_all(named.name.text().bytes())
+    out.push_all(bytes_of(named))
 }
 
 /// Adds the names, a space before each. Where memory runs out part of it may be added.
