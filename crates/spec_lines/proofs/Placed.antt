@@ -246,7 +246,7 @@ words_placed (row ∷ rows) h l t s = elim s as (λ _. IsPlaced l) [
   | inr g ↦ words_placed rows h.1 l t g
 ]
 
-line_placed : (l : Line) (t : List ℕ) → line_of_text l t → IsWithin l × (placed l ≡ l)
+pub line_placed : (l : Line) (t : List ℕ) → line_of_text l t → IsWithin l × (placed l ≡ l)
 line_placed l t s = words_placed line_words rows_placed l t s
 
 -- the one spelling of a line spells it wherever any bytes do, its names in the same columns

@@ -1,0 +1,12 @@
+pub mod Fine
+pub mod Cut
+pub mod Parts
+pub mod Coming
+pub mod Back
+pub mod Good
+pub mod Written
+pub mod Read
+pub mod Leaves
+pub mod Spelling
+pub mod LinesFine
+pub mod Rewritten
