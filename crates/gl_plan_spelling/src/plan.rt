@@ -1,9 +1,11 @@
 //! Whole plans.
 
-ghost use Rattle.std.specs.Prelude.{◌≡◌, ◌<◌, ◌++◌, codes, flat_map, length, OnOk, OnErr};
+ghost use Rattle.std.specs.Prelude.{◌≡◌, ◌<◌, ◌++◌, ℕ, List, codes, flat_map, length, OnOk, OnErr};
 ghost use Rattle.gl_lines.specs.declared.line.Line.TheVariants as line;
 ghost use Rattle.spec_plans.specs.Plan.{sections_of};
 ghost use Rattle.spec_whole_plans.specs.Canonical.{names_of_lists, spelled_plan};
+ghost use Rattle.spec_plan_texts.specs.Text.{SpellsPlan};
+ghost use Rattle.spec_plan_laws.specs.Short.{HasShortLines};
 ghost use Rattle.gl_plan_spelling.specs.Texts.{ended, front_text, writer_text, section_text};
 
 use crate::command::add_section;
@@ -16,9 +18,12 @@ use gl_whole_plan::Plan;
 use std::alloc::Global;
 
 /// Adds the one text of the plan; where memory runs out the bytes are as before. It takes memory for the text beside them
-/// while it writes, and time in proportion to the text.
+/// while it writes, and time in proportion to the text. What is added of a plan that was read from any text reads back
+/// as that plan, where each line of it is short enough to be read: an element of a block of records may have no such line.
 pub fn write_plan(alloc: Global, plan: &Plan, out: &mut Bytes) -> Result<(), Memory>
     ensures ok { OnOk result (out.new ≡ out.old ++ spelled_plan plan.now) }
+    ensures back { (bytes : List ℕ) → SpellsPlan bytes plan.now → HasShortLines plan.now
+        → SpellsPlan (spelled_plan plan.now) plan.now }
     ensures err { OnErr result (out.new ≡ out.old) }
 {
     let mut text = Bytes::new(alloc);
