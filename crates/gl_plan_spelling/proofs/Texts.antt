@@ -16,35 +16,43 @@ use Rattle.spec_whole_plans.specs.Canonical.{unplaced_name, names_of_lists, name
 use Rattle.gl_plan_spelling.specs.Texts.{names_of_decls, listener_names, name_at, ended, rows_text, list_text, listener_text, section_text, writer_text, front_text}
 
 -- a name by the declaration of its list or listener
-pub list_at : (ds : List ListDecl) (k : ℕ) → name_at (names_of_decls ds) k ≡ unwrap_or (option_map (λ (d : ListDecl). d.name) (slice_get ds k)) []
+pub list_at : (ds : List ListDecl) (k : ℕ)
+    → name_at (names_of_decls ds) k ≡ unwrap_or (option_map (λ (d : ListDecl). d.name) (slice_get ds k)) []
 list_at ds k = ap (λ o. unwrap_or o []) (slice_get-map (λ (d : ListDecl). d.name) ds k)
 
-pub listener_at : (ds : List ListenerDecl) (k : ℕ) → name_at (listener_names ds) k ≡ unwrap_or (option_map (λ (d : ListenerDecl). d.name) (slice_get ds k)) []
+pub listener_at : (ds : List ListenerDecl) (k : ℕ)
+    → name_at (listener_names ds) k ≡ unwrap_or (option_map (λ (d : ListenerDecl). d.name) (slice_get ds k)) []
 listener_at ds k = ap (λ o. unwrap_or o []) (slice_get-map (λ (d : ListenerDecl). d.name) ds k)
 
 -- the text of what each item gives
-parts : {X : Type 0} (lines : X → List Line) (text : X → List ℕ) → ((x : X) → flat_map ended (lines x) ≡ text x) → (xs : List X)
+parts : {X : Type 0} (lines : X → List Line) (text : X → List ℕ) → ((x : X) → flat_map ended (lines x) ≡ text x)
+    → (xs : List X)
     → flat_map ended (flat_map lines xs) ≡ flat_map text xs
 parts lines text are [] = refl
 parts lines text are (x ∷ xs) =
     flat_map-append ended (lines x) (flat_map lines xs) ∙ ap (λ t. t ++ flat_map ended (flat_map lines xs)) (are x)
     ∙ ap (λ t. text x ++ t) (parts lines text are xs)
 
-rows_are : (name : List ℕ) (kind : ListKind) → flat_map ended (row_lines (unplaced_name name) kind) ≡ rows_text name kind
+rows_are : (name : List ℕ) (kind : ListKind) → flat_map ended (row_lines (unplaced_name name) kind) ≡ rows_text name
+    kind
 rows_are name (kinds.Source rows) = flat_map-map ended (line.Row (unplaced_name name)) rows
 rows_are name other = refl
 
 list_is : (names : List (List ℕ)) (d : ListDecl) → flat_map ended (lines_of_list names d) ≡ list_text names d
 list_is names d = ap (λ t. ended (list_line names (unplaced_name d.name) d.kind) ++ t) (rows_are d.name d.kind)
 
-section_is : (names : List (List ℕ)) (commands : List Command) → flat_map ended (lines_of_section names commands) ≡ section_text names commands
+section_is : (names : List (List ℕ)) (commands : List Command)
+    → flat_map ended (lines_of_section names commands) ≡ section_text names commands
 section_is names commands = ap (λ x. codes "section\n" ++ x) (flat_map-map ended (command_line names) commands)
 
-writer_is : (names : List (List ℕ)) (sections : List (List Command)) → flat_map ended (lines_of_writer names sections) ≡ writer_text names sections
-writer_is names sections = ap (λ x. codes "writer\n" ++ x) (parts (lines_of_section names) (section_text names) (section_is names) sections)
+writer_is : (names : List (List ℕ)) (sections : List (List Command))
+    → flat_map ended (lines_of_writer names sections) ≡ writer_text names sections
+writer_is names sections =
+    ap (λ x. codes "writer\n" ++ x) (parts (lines_of_section names) (section_text names) (section_is names) sections)
 
 -- the text of a plan: what stands ahead of its writers, and these
-pub plan_parts : (p : Plan) → spelled_plan p ≡ front_text p.limit p.lists p.listeners ++ flat_map (writer_text (names_of_lists p)) p.writers
+pub plan_parts : (p : Plan) → spelled_plan p ≡ front_text p.limit p.lists p.listeners ++ flat_map
+    (writer_text (names_of_lists p)) p.writers
 plan_parts p =
     let lists = flat_map (lines_of_list (names_of_lists p)) p.lists in
     let listeners = map (listener_line (names_of_lists p) (names_of_listeners p)) p.listeners in
@@ -56,9 +64,13 @@ plan_parts p =
     let whole : flat_map ended ((lists ++ listeners) ++ writers) ≡ (a ++ b) ++ c =
     flat_map-append ended (lists ++ listeners) writers
     ∙ ap (λ x. x ++ flat_map ended writers) (flat_map-append ended lists listeners)
-    ∙ ap (λ x. (x ++ flat_map ended listeners) ++ flat_map ended writers) (parts (lines_of_list (names_of_lists p)) (list_text (names_of_lists p)) (list_is (names_of_lists p)) p.lists)
-    ∙ ap (λ x. (a ++ x) ++ flat_map ended writers) (flat_map-map ended (listener_line (names_of_lists p) (names_of_listeners p)) p.listeners)
-    ∙ ap (λ x. (a ++ b) ++ x) (parts (lines_of_writer (names_of_lists p)) (writer_text (names_of_lists p)) (writer_is (names_of_lists p)) p.writers) in
+    ∙ ap (λ x. (x ++ flat_map ended listeners) ++ flat_map ended writers)
+    (parts (lines_of_list (names_of_lists p)) (list_text (names_of_lists p)) (list_is (names_of_lists p)) p.lists)
+    ∙ ap (λ x. (a ++ x) ++ flat_map ended writers)
+    (flat_map-map ended (listener_line (names_of_lists p) (names_of_listeners p)) p.listeners)
+    ∙ ap (λ x. (a ++ b) ++ x)
+    (parts (lines_of_writer (names_of_lists p)) (writer_text (names_of_lists p)) (writer_is (names_of_lists p))
+    p.writers) in
     ap (λ x. first ++ x) whole
     ∙ sym (append_assoc first (a ++ b) c)
     ∙ ap (λ x. x ++ c) (sym (append_assoc first a b))
@@ -72,7 +84,8 @@ next_left f (x ∷ xs) (suc i) d l = next_left f xs i d (omega (arith, l))
 
 -- one item more is written
 pub one_more : {X : Type 0} (f : X → List ℕ) (xs : List X) (i : ℕ) (d : X) (out new whole : List ℕ) → i < length xs
-    → new ≡ out ++ f (unwrap_or (slice_get xs i) d) → out ++ flat_map f (drop i xs) ≡ whole → new ++ flat_map f (drop (i + 1) xs) ≡ whole
+    → new ≡ out ++ f (unwrap_or (slice_get xs i) d) → out ++ flat_map f (drop i xs) ≡ whole
+    → new ++ flat_map f (drop (i + 1) xs) ≡ whole
 one_more f xs i d out new whole l written left =
     let next : i + 1 ≡ suc i = omega arith in
     ap (λ k. new ++ flat_map f (drop k xs)) next
@@ -82,7 +95,8 @@ one_more f xs i d out new whole l written left =
     ∙ left
 
 -- where all but the writers is written, they are what is left
-pub all_written : (p : Plan) (start out : List ℕ) → out ≡ start ++ front_text p.limit p.lists p.listeners → out ++ flat_map (writer_text (names_of_lists p)) p.writers ≡ start ++ spelled_plan p
+pub all_written : (p : Plan) (start out : List ℕ) → out ≡ start ++ front_text p.limit p.lists p.listeners
+    → out ++ flat_map (writer_text (names_of_lists p)) p.writers ≡ start ++ spelled_plan p
 all_written p start out e =
     ap (λ x. x ++ flat_map (writer_text (names_of_lists p)) p.writers) e
     ∙ append_assoc start (front_text p.limit p.lists p.listeners) (flat_map (writer_text (names_of_lists p)) p.writers)

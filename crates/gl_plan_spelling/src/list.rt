@@ -105,7 +105,8 @@ fn add_composite(
     out: &mut Bytes,
 ) -> Result<(), Memory>
     ensures { OnOk result
-        (out.new ≡ out.old ++ spelled_line (list_line (names_of_decls lists.now) (unplaced_name name.now) (kinds.Composite members.now may.now))) }
+        (out.new ≡ out.old
+        ++ spelled_line (list_line (names_of_decls lists.now) (unplaced_name name.now) (kinds.Composite members.now may.now))) }
 {
     out.push_all(b"composite ")?;
     out.push_all(name)?;

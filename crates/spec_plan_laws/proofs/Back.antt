@@ -45,7 +45,8 @@ gone : (l : Line) → unplaced (same.unplaced l) ≡ unplaced l
 gone (line.Composite name members may) =
     ap (λ ms. line.Composite (taken_out name) ms (map taken_out (same.all_moved may))) (names_taken members)
     ∙ ap (λ ms. line.Composite (taken_out name) (map taken_out members) ms) (names_taken may)
-gone (line.Listen name list after echo) = ap (λ ms. line.Listen (taken_out name) (taken_out list) ms echo) (names_taken after)
+gone (line.Listen name list after echo) = ap (λ ms. line.Listen (taken_out name) (taken_out list) ms echo)
+    (names_taken after)
 gone line.Writer = refl
 gone other = refl
 
@@ -54,7 +55,8 @@ placed_unplaced l = sym (gone (placed l)) ∙ ap unplaced (placed_same l) ∙ go
 
 all_unplaced : (ls : List Line) → map unplaced (map placed ls) ≡ map unplaced ls
 all_unplaced [] = refl
-all_unplaced (l ∷ ls) = ap (λ k. k ∷ map unplaced (map placed ls)) (placed_unplaced l) ∙ ap (λ ks. unplaced l ∷ ks) (all_unplaced ls)
+all_unplaced (l ∷ ls) = ap (λ k. k ∷ map unplaced (map placed ls)) (placed_unplaced l)
+    ∙ ap (λ ks. unplaced l ∷ ks) (all_unplaced ls)
 
 -- no line of a plan opens a block
 list_opens : (names : List (List ℕ)) (name : Named) (kind : ListKind) → OpensNone (list_line names name kind)
@@ -80,7 +82,9 @@ each P h (x ∷ xs) = (h x, each P h xs)
 opens_none : (p : Plan) → AllByRecursion OpensNone (lines_of_plan p)
 opens_none p =
     all_lines OpensNone p refl
-    (each (OfList OpensNone (names_of_lists p)) (λ d. (list_opens (names_of_lists p) (unplaced_name d.name) d.kind, row_opens (unplaced_name d.name) d.kind)) p.lists)
+    (each (OfList OpensNone (names_of_lists p))
+    (λ d. (list_opens (names_of_lists p) (unplaced_name d.name) d.kind, row_opens (unplaced_name d.name) d.kind))
+    p.lists)
     (each _ (λ d. refl) p.listeners) refl refl
     (each _ (command_opens (names_of_lists p)) (all_commands p))
 
@@ -91,24 +95,29 @@ heading rest = line_first (codes "glaze 1") rest (refl, (refl, (refl, (refl, (re
 in_place : (lines : List NumberedLine) → first_fault_at lines ≡ None → first_misplaced lines ≡ None
 in_place lines sound =
     let at_start : Misplaced → FaultAt = λ m. record { line = m.line; column = 1; kind = m.kind } in
-    unmapped at_start (first_misplaced lines) (first_none (option_map at_start (first_misplaced lines)) (first_misnamed lines) sound)
+    unmapped at_start (first_misplaced lines)
+    (first_none (option_map at_start (first_misplaced lines)) (first_misnamed lines) sound)
 
 first_utf8 : IsUtf8 (codes "glaze 1\n")
 unfolding encode
 first_utf8 = (codes "glaze 1\n", (refl, refl))
 
-pub spelled_back : (bytes : List ℕ) (p : Plan) → SpellsPlan bytes p → AllByRecursion IsWithin (lines_of_plan p) → AllByRecursion IsFineLine (lines_of_plan p)
+pub spelled_back : (bytes : List ℕ) (p : Plan) → SpellsPlan bytes p → AllByRecursion IsWithin (lines_of_plan p)
+    → AllByRecursion IsFineLine (lines_of_plan p)
     → HasShortLines p → SpellsPlan (spelled_plan p) p
 spelled_back bytes p spells within fine short =
     let ls : List Line = map placed (lines_of_plan p) in
-    let sound : IsWellFormed p = subst IsWellFormed (sym spells.makes) (sound_lines_well_formed spells.lines spells.sound) in
+    let sound : IsWellFormed p =
+    subst IsWellFormed (sym spells.makes) (sound_lines_well_formed spells.lines spells.sound) in
     let again : Again p ls = read_again p ls sound (all_unplaced (lines_of_plan p)) in
     let cut : lines_in (spelled_plan p) ≡ codes "glaze 1" ∷ map spelled_line (lines_of_plan p) =
-    heading (flat_map ended (lines_of_plan p)) ∙ ap (λ raws. codes "glaze 1" ∷ raws) (text_lines (lines_of_plan p) fine) in
+    heading (flat_map ended (lines_of_plan p))
+    ∙ ap (λ raws. codes "glaze 1" ∷ raws) (text_lines (lines_of_plan p) fine) in
     record {
       lines = numbered 2 ls;
       read = (
-        IsUtf8-append (codes "glaze 1\n") (flat_map ended (lines_of_plan p)) first_utf8 (text_utf8 (lines_of_plan p) fine),
+        IsUtf8-append (codes "glaze 1\n") (flat_map ended (lines_of_plan p)) first_utf8
+            (text_utf8 (lines_of_plan p) fine),
         map spelled_line (lines_of_plan p),
         cut,
         comes [] 2 (lines_of_plan p) within short (opens_none p) (in_place (numbered 2 ls) again.sound),

@@ -27,16 +27,20 @@ spells l h =
 abbrev pub OpensNone : Line → Type 0
 OpensNone l = opened_by (placed l) ≡ None
 
-pub comes : (before : List NumberedLine) (n : ℕ) (ls : List Line) → AllByRecursion IsWithin ls → AllByRecursion IsShortLine ls → AllByRecursion OpensNone ls
+pub comes : (before : List NumberedLine) (n : ℕ) (ls : List Line) → AllByRecursion IsWithin ls
+    → AllByRecursion IsShortLine ls → AllByRecursion OpensNone ls
     → first_behind misplacing before (whole.numbered n (map placed ls)) ≡ None
     → Comes outside before n (map spelled_line ls) (all_read (before ++ whole.numbered n (map placed ls)))
-comes before n [] within short opens none = subst (λ ls. Comes outside before n [] (all_read ls)) (sym (append-nil before)) at_end
+comes before n [] within short opens none = subst (λ ls. Comes outside before n [] (all_read ls))
+    (sym (append-nil before)) at_end
 comes before n (l ∷ ls) within short opens none =
     let this : NumberedLine = numbered n (placed l) in
     let others = whole.numbered (suc n) (map placed ls) in
     let later = first_behind misplacing (before ++ this ∷ []) others in
     let here : place_fault before (placed l) ≡ None =
-    unmapped (λ (k : PlanKind). record { line = n; kind = k }) (place_fault before (placed l)) (first_none (misplacing before this) later none) in
-    subst (λ xs. Comes outside before n (map spelled_line (l ∷ ls)) (all_read xs)) (append_assoc before (this ∷ []) others)
+    unmapped (λ (k : PlanKind). record { line = n; kind = k }) (place_fault before (placed l))
+    (first_none (misplacing before this) later none) in
+    subst (λ xs. Comes outside before n (map spelled_line (l ∷ ls)) (all_read xs))
+    (append_assoc before (this ∷ []) others)
     (plain (placed l) short.0 (spells l within.0) here opens.0
     (comes (before ++ this ∷ []) (suc n) ls within.1 short.1 opens.1 (second_none (misplacing before this) later none)))

@@ -33,4 +33,5 @@ text_lines (l ∷ ls) h =
 pub text_utf8 : (ls : List Line) → AllByRecursion IsFineLine ls → IsUtf8 (flat_map ended ls)
 text_utf8 [] h = IsUtf8-nil
 text_utf8 (l ∷ ls) h =
-    IsUtf8-append (ended l) (flat_map ended ls) (IsUtf8-append (spelled_line l) (codes "\n") h.0.utf8 (ascii_utf8 10 (omega arith))) (text_utf8 ls h.1)
+    IsUtf8-append (ended l) (flat_map ended ls)
+    (IsUtf8-append (spelled_line l) (codes "\n") h.0.utf8 (ascii_utf8 10 (omega arith))) (text_utf8 ls h.1)

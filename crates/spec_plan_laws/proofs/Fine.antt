@@ -23,4 +23,5 @@ pub fine_nil : IsFine []
 fine_nil = record { utf8 = IsUtf8-nil; no_feed = tt }
 
 pub fine_append : (u v : List ℕ) → IsFine u → IsFine v → IsFine (u ++ v)
-fine_append u v h k = record { utf8 = IsUtf8-append u v h.utf8 k.utf8; no_feed = no_feed_append u v h.no_feed k.no_feed }
+fine_append u v h k =
+    record { utf8 = IsUtf8-append u v h.utf8 k.utf8; no_feed = no_feed_append u v h.no_feed k.no_feed }

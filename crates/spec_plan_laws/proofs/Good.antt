@@ -79,28 +79,52 @@ pub record IsGood (p : Plan) : Type 0 where
   pub listeners : AllByRecursion (λ (d : ListenerDecl). IsName d.name) p.listeners
   pub commands : AllByRecursion (AllByRecursion (AllByRecursion IsGoodCommand)) p.writers
 
-all_last : {X : Type 0} (P : X → Type 0) (f : X → X) → ((x : X) → P x → P (f x)) → (xs : List X) → AllByRecursion P xs → AllByRecursion P (with_last f xs)
+all_last : {X : Type 0} (P : X → Type 0) (f : X → X) → ((x : X) → P x → P (f x)) → (xs : List X) → AllByRecursion P xs
+    → AllByRecursion P (with_last f xs)
 all_last P f g [] h = tt
 all_last P f g (x ∷ []) h = (g x h.0, tt)
 all_last P f g (x ∷ y ∷ ys) h = (h.0, all_last P f g (y ∷ ys) h.1)
 
 good_more : (p : Plan) (part : Part) → IsGood p → IsGoodPart part → IsGood (with_part p part)
 good_more p (parts.Limit n) g h = record { limit = h; lists = g.lists; listeners = g.listeners; commands = g.commands }
-good_more p (parts.List d) g h = record { limit = g.limit; lists = all_append IsGoodDecl p.lists (d ∷ []) g.lists (h, tt); listeners = g.listeners; commands = g.commands }
-good_more p (parts.Listener d) g h = record { limit = g.limit; lists = g.lists; listeners = all_append (λ (e : ListenerDecl). IsName e.name) p.listeners (d ∷ []) g.listeners (h, tt); commands = g.commands }
-good_more p parts.Writer g h = record { limit = g.limit; lists = g.lists; listeners = g.listeners; commands = all_append (AllByRecursion (AllByRecursion IsGoodCommand)) p.writers ([] ∷ []) g.commands (tt, tt) }
+good_more p (parts.List d) g h =
+    record {
+      limit = g.limit;
+      lists = all_append IsGoodDecl p.lists (d ∷ []) g.lists (h, tt);
+      listeners =
+          g.listeners;
+      commands = g.commands;
+    }
+good_more p (parts.Listener d) g h =
+    record {
+      limit = g.limit;
+      lists = g.lists;
+      listeners = all_append (λ (e : ListenerDecl). IsName e.name)
+          p.listeners (d ∷ []) g.listeners (h, tt);
+      commands = g.commands;
+    }
+good_more p parts.Writer g h =
+    record {
+      limit = g.limit;
+      lists = g.lists;
+      listeners = g.listeners;
+      commands =
+          all_append (AllByRecursion (AllByRecursion IsGoodCommand)) p.writers ([] ∷ []) g.commands (tt, tt);
+    }
 good_more p parts.Section g h = record {
   limit = g.limit;
   lists = g.lists;
   listeners = g.listeners;
-  commands = all_last (AllByRecursion (AllByRecursion IsGoodCommand)) (λ sections. sections ++ [] ∷ []) (λ sections k. all_append (AllByRecursion IsGoodCommand) sections ([] ∷ []) k (tt, tt)) p.writers g.commands;
+  commands = all_last (AllByRecursion (AllByRecursion IsGoodCommand)) (λ sections. sections ++ [] ∷ [])
+      (λ sections k. all_append (AllByRecursion IsGoodCommand) sections ([] ∷ []) k (tt, tt)) p.writers g.commands;
 }
 good_more p (parts.Command c) g h = record {
   limit = g.limit;
   lists = g.lists;
   listeners = g.listeners;
   commands = all_last (AllByRecursion (AllByRecursion IsGoodCommand)) (with_last (λ cs. cs ++ c ∷ []))
-      (all_last (AllByRecursion IsGoodCommand) (λ cs. cs ++ c ∷ []) (λ cs k. all_append IsGoodCommand cs (c ∷ []) k (h, tt))) p.writers g.commands;
+      (all_last (AllByRecursion IsGoodCommand) (λ cs. cs ++ c ∷ [])
+      (λ cs k. all_append IsGoodCommand cs (c ∷ []) k (h, tt))) p.writers g.commands;
 }
 good_more p parts.Elsewhere g h = g
 
@@ -108,7 +132,8 @@ good_all : (p : Plan) (ps : List Part) → IsGood p → AllByRecursion IsGoodPar
 good_all p [] g h = g
 good_all p (x ∷ xs) g h = good_all (with_part p x) xs (good_more p x g h.0) h.1
 
-good_part : (lists listeners : List (List ℕ)) (rows : ℕ → List Tree) → ((k : ℕ) → AllByRecursion IsLiteral (rows k)) → (l : Line) → IsWithin l → IsGoodPart (part_of lists listeners rows l)
+good_part : (lists listeners : List (List ℕ)) (rows : ℕ → List Tree) → ((k : ℕ) → AllByRecursion IsLiteral (rows k))
+    → (l : Line) → IsWithin l → IsGoodPart (part_of lists listeners rows l)
 good_part lists listeners rows r (line.Limit limit) h = h
 good_part lists listeners rows r (line.Source name) h = (h, r _)
 good_part lists listeners rows r (line.Row list value) h = tt
@@ -165,7 +190,12 @@ made_good lines h =
     let rows = rows_for names lines in
     let literal : (k : ℕ) → AllByRecursion IsLiteral (rows k) =
     λ k. all_given (λ (l : NumberedLine). row_for names k l.what) IsLiteral lines
-    (all_weaker (λ (l : NumberedLine). IsWithin l.what) (λ (l : NumberedLine). (v : Tree) → row_for names k l.what ≡ Some v → IsLiteral v) (λ l w v e. good_row names k l.what v w e) lines h) in
-    good_all empty_plan (parts_of lines) (record { limit = (omega arith, omega arith); lists = tt; listeners = tt; commands = tt })
+    (all_weaker (λ (l : NumberedLine). IsWithin l.what)
+    (λ (l : NumberedLine). (v : Tree) → row_for names k l.what ≡ Some v → IsLiteral v)
+    (λ l w v e. good_row names k l.what v w e) lines h) in
+    good_all empty_plan (parts_of lines)
+    (record { limit = (omega arith, omega arith); lists = tt; listeners = tt; commands = tt })
     (all_map IsGoodPart (λ (l : NumberedLine). part_of names (listener_names lines) rows l.what) lines
-    (all_weaker (λ (l : NumberedLine). IsWithin l.what) (λ (l : NumberedLine). IsGoodPart (part_of names (listener_names lines) rows l.what)) (λ l w. good_part names (listener_names lines) rows literal l.what w) lines h))
+    (all_weaker (λ (l : NumberedLine). IsWithin l.what)
+    (λ (l : NumberedLine). IsGoodPart (part_of names (listener_names lines) rows l.what))
+    (λ l w. good_part names (listener_names lines) rows literal l.what w) lines h))

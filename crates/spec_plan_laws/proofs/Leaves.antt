@@ -47,7 +47,8 @@ name_bytes_fine : (n : List ℕ) → list_all is_name_byte n ≡ true → IsFine
 name_bytes_fine [] h = fine_nil
 name_bytes_fine (b ∷ n) h =
     let parts = and_parts (is_name_byte b) (list_all is_name_byte n) h in
-    fine_append (b ∷ []) n (one_fine b (name_byte_low b parts.0) (name_byte_no_feed b parts.0)) (name_bytes_fine n parts.1)
+    fine_append (b ∷ []) n (one_fine b (name_byte_low b parts.0) (name_byte_no_feed b parts.0))
+    (name_bytes_fine n parts.1)
 
 pub name_fine : (n : List ℕ) → IsTrue (is_name n) → IsFine n
 name_fine n h = name_bytes_fine n (name_bytes n h)
@@ -59,12 +60,14 @@ digit_fine : (d : ℕ) → d < 10 → IsFine ((48 + d) ∷ [])
 digit_fine d l = one_fine (48 + d) (omega (arith, l)) (digit_no_feed d l)
 
 decimal_upto : (most n : ℕ) → n ≤ most → n < 2 ^ 64 → IsFine (decimal n)
-decimal_upto zero n h l = let none : n ≡ 0 = omega (arith, h) in subst (λ k. IsFine (decimal k)) (sym none) (subst IsFine (sym (decimal_digit 0 (omega arith))) (digit_fine 0 (omega arith)))
+decimal_upto zero n h l = let none : n ≡ 0 = omega (arith, h) in subst (λ k. IsFine (decimal k)) (sym none)
+    (subst IsFine (sym (decimal_digit 0 (omega arith))) (digit_fine 0 (omega arith)))
 decimal_upto (suc most) n h l = elim (cases_lt n 10) as (λ _. IsFine (decimal n)) [
   | inl small ↦ subst IsFine (sym (decimal_digit n small)) (digit_fine n small)
   | inr great ↦
       subst IsFine (sym (decimal_step n great l))
-      (fine_append (decimal (n / 10)) ((48 + n % 10) ∷ []) (decimal_upto most (n / 10) (omega (arith, h, great)) (omega (arith, l))) (digit_fine (n % 10) (omega arith)))
+      (fine_append (decimal (n / 10)) ((48 + n % 10) ∷ [])
+      (decimal_upto most (n / 10) (omega (arith, h, great)) (omega (arith, l))) (digit_fine (n % 10) (omega arith)))
 ]
 
 pub decimal_fine : (n : ℕ) → n < 2 ^ 64 → IsFine (decimal n)
@@ -72,7 +75,8 @@ decimal_fine n l = decimal_upto n n (omega arith) l
 
 pub signed_fine : (z : ℤ) → FitsSigned w64 z → IsFine (signed_decimal z)
 signed_fine (pos n) h = decimal_fine n (omega arith)
-signed_fine (negsuc n) h = fine_append (45 ∷ []) (decimal (suc n)) (word_fine (45 ∷ []) refl) (decimal_fine (suc n) (omega arith))
+signed_fine (negsuc n) h = fine_append (45 ∷ []) (decimal (suc n)) (word_fine (45 ∷ []) refl)
+    (decimal_fine (suc n) (omega arith))
 
 fine_if : (t : Bool) (u v : List ℕ) → IsFine u → IsFine v → IsFine (cond t u v)
 fine_if true u v h k = h
@@ -93,22 +97,39 @@ byte_fine b l =
     (fine_if (b == 92) (codes "\\\\") _ (word_fine (codes "\\\\") refl) (by (b == 10) refl))
   where
     by : (t : Bool) → (b == 10) ≡ t
-        → IsFine (cond t (codes "\\n") (cond (b == 9) (codes "\\t") (cond (nat_lt b 32) (codes "\\x" ++ hex_digit (b / 16) ∷ hex_digit (b % 16) ∷ []) (b ∷ []))))
+        → IsFine (cond t (codes "\\n")
+        (cond (b == 9) (codes "\\t")
+        (cond (nat_lt b 32) (codes "\\x" ++ hex_digit (b / 16) ∷ hex_digit (b % 16) ∷ []) (b ∷ []))))
     by true e = word_fine (codes "\\n") refl
     by false e =
         fine_if (b == 9) (codes "\\t") _ (word_fine (codes "\\t") refl)
         (fine_if (nat_lt b 32) (codes "\\x" ++ hex_digit (b / 16) ∷ hex_digit (b % 16) ∷ []) (b ∷ [])
         (fine_append (codes "\\x") (hex_digit (b / 16) ∷ hex_digit (b % 16) ∷ []) (word_fine (codes "\\x") refl)
-        (fine_append (hex_digit (b / 16) ∷ []) (hex_digit (b % 16) ∷ []) (hex_fine (b / 16) (omega (arith, l))) (hex_fine (b % 16) (omega arith))))
+        (fine_append (hex_digit (b / 16) ∷ []) (hex_digit (b % 16) ∷ []) (hex_fine (b / 16) (omega (arith, l)))
+        (hex_fine (b % 16) (omega arith))))
         (one_fine b l e))
 
 -- high bytes are spelled as they are
 high_byte : (b : ℕ) → 128 ≤ b → spelled_byte b ≡ b ∷ []
 high_byte b h =
-    ap (λ t. cond t (codes "\\\"") (cond (b == 92) (codes "\\\\") (cond (b == 10) (codes "\\n") (cond (b == 9) (codes "\\t") (cond (nat_lt b 32) (codes "\\x" ++ hex_digit (b / 16) ∷ hex_digit (b % 16) ∷ []) (b ∷ [])))))) (not_this b 34 (omega (arith, h)))
-    ∙ ap (λ t. cond t (codes "\\\\") (cond (b == 10) (codes "\\n") (cond (b == 9) (codes "\\t") (cond (nat_lt b 32) (codes "\\x" ++ hex_digit (b / 16) ∷ hex_digit (b % 16) ∷ []) (b ∷ []))))) (not_this b 92 (omega (arith, h)))
-    ∙ ap (λ t. cond t (codes "\\n") (cond (b == 9) (codes "\\t") (cond (nat_lt b 32) (codes "\\x" ++ hex_digit (b / 16) ∷ hex_digit (b % 16) ∷ []) (b ∷ [])))) (not_this b 10 (omega (arith, h)))
-    ∙ ap (λ t. cond t (codes "\\t") (cond (nat_lt b 32) (codes "\\x" ++ hex_digit (b / 16) ∷ hex_digit (b % 16) ∷ []) (b ∷ []))) (not_this b 9 (omega (arith, h)))
+    ap (λ t. cond t (codes "\\\"")
+    (cond (b == 92) (codes "\\\\")
+    (cond (b == 10) (codes "\\n")
+    (cond (b == 9) (codes "\\t")
+    (cond (nat_lt b 32) (codes "\\x" ++ hex_digit (b / 16) ∷ hex_digit (b % 16) ∷ []) (b ∷ []))))))
+    (not_this b 34 (omega (arith, h)))
+    ∙ ap (λ t. cond t (codes "\\\\")
+    (cond (b == 10) (codes "\\n")
+    (cond (b == 9) (codes "\\t")
+    (cond (nat_lt b 32) (codes "\\x" ++ hex_digit (b / 16) ∷ hex_digit (b % 16) ∷ []) (b ∷ [])))))
+    (not_this b 92 (omega (arith, h)))
+    ∙ ap (λ t. cond t (codes "\\n")
+    (cond (b == 9) (codes "\\t")
+    (cond (nat_lt b 32) (codes "\\x" ++ hex_digit (b / 16) ∷ hex_digit (b % 16) ∷ []) (b ∷ []))))
+    (not_this b 10 (omega (arith, h)))
+    ∙ ap (λ t. cond t (codes "\\t")
+    (cond (nat_lt b 32) (codes "\\x" ++ hex_digit (b / 16) ∷ hex_digit (b % 16) ∷ []) (b ∷ [])))
+    (not_this b 9 (omega (arith, h)))
     ∙ ap (λ t. cond t (codes "\\x" ++ hex_digit (b / 16) ∷ hex_digit (b % 16) ∷ []) (b ∷ [])) (not_low b h)
   where
     not_this : (b c : ℕ) → c < b → (b == c) ≡ false
@@ -130,10 +151,12 @@ high_no_feed (b ∷ bs) h = (one b h.0, high_no_feed bs h.1)
 
 char_fine : (c : ℕ) → scalar c ≡ true → IsFine (flat_map spelled_byte (encode c))
 char_fine c s = elim (cases_lt c 128) as (λ _. IsFine (flat_map spelled_byte (encode c))) [
-  | inl low ↦ subst (λ bs. IsFine (flat_map spelled_byte bs)) (sym (one_byte c low)) (subst IsFine (sym (append-nil (spelled_byte c))) (byte_fine c low))
+  | inl low ↦ subst (λ bs. IsFine (flat_map spelled_byte bs)) (sym (one_byte c low))
+      (subst IsFine (sym (append-nil (spelled_byte c))) (byte_fine c low))
   | inr great ↦
       let bytes = high c great in
-      subst IsFine (sym (high_same (encode c) bytes)) (record { utf8 = IsUtf8-encode c s; no_feed = high_no_feed (encode c) bytes })
+      subst IsFine (sym (high_same (encode c) bytes))
+      (record { utf8 = IsUtf8-encode c s; no_feed = high_no_feed (encode c) bytes })
 ]
 
 chars_fine : (cs : List ℕ) → scalars cs ≡ true → IsFine (flat_map spelled_byte (encodes cs))
@@ -141,7 +164,8 @@ chars_fine [] h = fine_nil
 chars_fine (c ∷ cs) h =
     let parts = and_parts (scalar c) (scalars cs) h in
     subst IsFine (sym (flat_map-append spelled_byte (encode c) (encodes cs)))
-    (fine_append (flat_map spelled_byte (encode c)) (flat_map spelled_byte (encodes cs)) (char_fine c parts.0) (chars_fine cs parts.1))
+    (fine_append (flat_map spelled_byte (encode c)) (flat_map spelled_byte (encodes cs)) (char_fine c parts.0)
+    (chars_fine cs parts.1))
 
 -- the inside of a text
 pub text_fine : (bs : List ℕ) → IsUtf8 bs → IsFine (flat_map spelled_byte bs)

@@ -17,19 +17,24 @@ use Rattle.spec_plan_laws.proofs.Spelling.{value_fine, path_fine, order_fine, sh
 
 names_fine : (ns : List Named) → AllByRecursion IsNamed ns → IsFine (spelled_names ns)
 names_fine [] h = fine_nil
-names_fine (n ∷ ns) h = fine_append (32 ∷ n.name) (spelled_names ns) (fine_append (32 ∷ []) n.name (word_fine (32 ∷ []) refl) (name_fine n.name h.0)) (names_fine ns h.1)
+names_fine (n ∷ ns) h = fine_append (32 ∷ n.name) (spelled_names ns)
+    (fine_append (32 ∷ []) n.name (word_fine (32 ∷ []) refl) (name_fine n.name h.0)) (names_fine ns h.1)
 
 may_fine : (ns : List Named) → AllByRecursion IsNamed ns → IsFine (spelled_may ns)
 may_fine [] h = fine_nil
-may_fine (n ∷ ns) h = fine_append (codes " may") (spelled_names (n ∷ ns)) (word_fine (codes " may") refl) (names_fine (n ∷ ns) h)
+may_fine (n ∷ ns) h = fine_append (codes " may") (spelled_names (n ∷ ns)) (word_fine (codes " may") refl)
+    (names_fine (n ∷ ns) h)
 
 others_fine : (ns : List Named) → AllByRecursion IsNamed ns → IsFine (spelled_others ns)
 others_fine [] h = fine_nil
-others_fine (n ∷ ns) h = fine_append (44 ∷ n.name) (spelled_others ns) (fine_append (44 ∷ []) n.name (word_fine (44 ∷ []) refl) (name_fine n.name h.0)) (others_fine ns h.1)
+others_fine (n ∷ ns) h = fine_append (44 ∷ n.name) (spelled_others ns)
+    (fine_append (44 ∷ []) n.name (word_fine (44 ∷ []) refl) (name_fine n.name h.0)) (others_fine ns h.1)
 
 after_fine : (ns : List Named) → AllByRecursion IsNamed ns → IsFine (spelled_after ns)
 after_fine [] h = fine_nil
-after_fine (n ∷ ns) h = fine_append (codes " after " ++ n.name) (spelled_others ns) (fine_append (codes " after ") n.name (word_fine (codes " after ") refl) (name_fine n.name h.0)) (others_fine ns h.1)
+after_fine (n ∷ ns) h = fine_append (codes " after " ++ n.name) (spelled_others ns)
+    (fine_append (codes " after ") n.name (word_fine (codes " after ") refl) (name_fine n.name h.0))
+    (others_fine ns h.1)
 
 echo_fine : (e : Bool) → IsFine (cond e (codes " echo") [])
 echo_fine true = word_fine (codes " echo") refl
@@ -52,42 +57,68 @@ limit_low : (n : ℕ) → n ≤ 16777216 → n < 2 ^ 64
 limit_low n l = omega (arith, l)
 
 pub line_fine : (l : Line) → IsWithin l → IsFineLine l
-line_fine (line.Limit limit) h = fine_append (codes "limit ") (decimal limit) (word_fine (codes "limit ") refl) (decimal_fine limit (limit_low limit h.1))
+line_fine (line.Limit limit) h = fine_append (codes "limit ") (decimal limit) (word_fine (codes "limit ") refl)
+    (decimal_fine limit (limit_low limit h.1))
 line_fine (line.Source n) h = one (codes "source") n (word_fine (codes "source") refl) h
-line_fine (line.Row n x) h = spaced (spelled_with (codes "row") (n ∷ [])) (spelled_value x) (one (codes "row") n (word_fine (codes "row") refl) h.0) (value_fine x h.1.0)
+line_fine (line.Row n x) h = spaced (spelled_with (codes "row") (n ∷ [])) (spelled_value x)
+    (one (codes "row") n (word_fine (codes "row") refl) h.0) (value_fine x h.1.0)
 line_fine (line.Csv n) h = one (codes "csv") n (word_fine (codes "csv") refl) h
 line_fine line.EndCsv h = word_fine (codes "end csv") refl
-line_fine (line.Filter n m x) h = spaced (spelled_with (codes "filter") (n ∷ m ∷ [])) (spelled_matcher x) (two (codes "filter") n m (word_fine (codes "filter") refl) h.0 h.1) (matcher_fine x h.2.0)
-line_fine (line.Sorted n m x) h = spaced (spelled_with (codes "sorted") (n ∷ m ∷ [])) (spelled_order x) (two (codes "sorted") n m (word_fine (codes "sorted") refl) h.0 h.1) (order_fine x h.2)
-line_fine (line.Unique n m x) h = spaced (spelled_with (codes "unique") (n ∷ m ∷ [])) (spelled_order x) (two (codes "unique") n m (word_fine (codes "unique") refl) h.0 h.1) (order_fine x h.2)
-line_fine (line.Grouping n m x) h = spaced (spelled_with (codes "grouping") (n ∷ m ∷ [])) (spelled_order x) (two (codes "grouping") n m (word_fine (codes "grouping") refl) h.0 h.1) (order_fine x h.2)
-line_fine (line.Range n m x) h = spaced (spelled_with (codes "range") (n ∷ m ∷ [])) (spelled_bounds x) (two (codes "range") n m (word_fine (codes "range") refl) h.0 h.1) (bounds_fine x h.2)
-line_fine (line.Function n m x) h = spaced (spelled_with (codes "function") (n ∷ m ∷ [])) (spelled_func x) (two (codes "function") n m (word_fine (codes "function") refl) h.0 h.1) (func_fine x 8 h.2)
-line_fine (line.Collection n m x) h = spaced (spelled_with (codes "collection") (n ∷ m ∷ [])) (spelled_path x) (two (codes "collection") n m (word_fine (codes "collection") refl) h.0 h.1) (path_fine x h.2)
-line_fine (line.Composite n ms may) h = fine_append (spelled_with (codes "composite") (n ∷ ms)) (spelled_may may) (with_fine (codes "composite") (n ∷ ms) (word_fine (codes "composite") refl) (h.0, h.1)) (may_fine may h.2)
+line_fine (line.Filter n m x) h = spaced (spelled_with (codes "filter") (n ∷ m ∷ [])) (spelled_matcher x)
+    (two (codes "filter") n m (word_fine (codes "filter") refl) h.0 h.1) (matcher_fine x h.2.0)
+line_fine (line.Sorted n m x) h = spaced (spelled_with (codes "sorted") (n ∷ m ∷ [])) (spelled_order x)
+    (two (codes "sorted") n m (word_fine (codes "sorted") refl) h.0 h.1) (order_fine x h.2)
+line_fine (line.Unique n m x) h = spaced (spelled_with (codes "unique") (n ∷ m ∷ [])) (spelled_order x)
+    (two (codes "unique") n m (word_fine (codes "unique") refl) h.0 h.1) (order_fine x h.2)
+line_fine (line.Grouping n m x) h = spaced (spelled_with (codes "grouping") (n ∷ m ∷ [])) (spelled_order x)
+    (two (codes "grouping") n m (word_fine (codes "grouping") refl) h.0 h.1) (order_fine x h.2)
+line_fine (line.Range n m x) h = spaced (spelled_with (codes "range") (n ∷ m ∷ [])) (spelled_bounds x)
+    (two (codes "range") n m (word_fine (codes "range") refl) h.0 h.1) (bounds_fine x h.2)
+line_fine (line.Function n m x) h = spaced (spelled_with (codes "function") (n ∷ m ∷ [])) (spelled_func x)
+    (two (codes "function") n m (word_fine (codes "function") refl) h.0 h.1) (func_fine x 8 h.2)
+line_fine (line.Collection n m x) h = spaced (spelled_with (codes "collection") (n ∷ m ∷ [])) (spelled_path x)
+    (two (codes "collection") n m (word_fine (codes "collection") refl) h.0 h.1) (path_fine x h.2)
+line_fine (line.Composite n ms may) h = fine_append (spelled_with (codes "composite") (n ∷ ms)) (spelled_may may)
+    (with_fine (codes "composite") (n ∷ ms) (word_fine (codes "composite") refl) (h.0, h.1)) (may_fine may h.2)
 line_fine (line.Transaction n m) h = two (codes "transaction") n m (word_fine (codes "transaction") refl) h.0 h.1
 line_fine (line.Freezable n m) h = two (codes "freezable") n m (word_fine (codes "freezable") refl) h.0 h.1
 line_fine (line.Proxy n m) h = two (codes "proxy") n m (word_fine (codes "proxy") refl) h.0 h.1
 line_fine (line.Listen n m ns e) h =
-    fine_append (((spelled_with (codes "listen") (n ∷ []) ++ codes " on") ++ spelled_names (m ∷ [])) ++ spelled_after ns) (cond e (codes " echo") [])
+    fine_append (((spelled_with (codes "listen") (n ∷ []) ++ codes " on") ++ spelled_names (m ∷ [])) ++ spelled_after
+    ns) (cond e (codes " echo") [])
     (fine_append ((spelled_with (codes "listen") (n ∷ []) ++ codes " on") ++ spelled_names (m ∷ [])) (spelled_after ns)
     (fine_append (spelled_with (codes "listen") (n ∷ []) ++ codes " on") (spelled_names (m ∷ []))
-    (fine_append (spelled_with (codes "listen") (n ∷ [])) (codes " on") (one (codes "listen") n (word_fine (codes "listen") refl) h.0) (word_fine (codes " on") refl))
+    (fine_append (spelled_with (codes "listen") (n ∷ [])) (codes " on")
+    (one (codes "listen") n (word_fine (codes "listen") refl) h.0) (word_fine (codes " on") refl))
     (names_fine (m ∷ []) (h.1, tt))) (after_fine ns h.2)) (echo_fine e)
 line_fine line.Writer h = word_fine (codes "writer") refl
 line_fine line.Section h = word_fine (codes "section") refl
-line_fine (line.Add n x) h = spaced (spelled_with (codes "add") (n ∷ [])) (spelled_value x) (one (codes "add") n (word_fine (codes "add") refl) h.0) (value_fine x h.1.0)
-line_fine (line.AddAll n x) h = spaced (spelled_with (codes "addall") (n ∷ [])) (spelled_list x) (one (codes "addall") n (word_fine (codes "addall") refl) h.0) (value_fine (items_of x) h.1.0)
-line_fine (line.Insert n i x) h = spaced ((spelled_with (codes "insert") (n ∷ []) ++ codes " ") ++ decimal i) (spelled_value x) (spaced (spelled_with (codes "insert") (n ∷ [])) (decimal i) (one (codes "insert") n (word_fine (codes "insert") refl) h.0) (short_fine i h.1)) (value_fine x h.2.0)
-line_fine (line.Set n i x) h = spaced ((spelled_with (codes "set") (n ∷ []) ++ codes " ") ++ decimal i) (spelled_value x) (spaced (spelled_with (codes "set") (n ∷ [])) (decimal i) (one (codes "set") n (word_fine (codes "set") refl) h.0) (short_fine i h.1)) (value_fine x h.2.0)
-line_fine (line.Remove n x) h = spaced (spelled_with (codes "remove") (n ∷ [])) (decimal x) (one (codes "remove") n (word_fine (codes "remove") refl) h.0) (short_fine x h.1)
+line_fine (line.Add n x) h = spaced (spelled_with (codes "add") (n ∷ [])) (spelled_value x)
+    (one (codes "add") n (word_fine (codes "add") refl) h.0) (value_fine x h.1.0)
+line_fine (line.AddAll n x) h = spaced (spelled_with (codes "addall") (n ∷ [])) (spelled_list x)
+    (one (codes "addall") n (word_fine (codes "addall") refl) h.0) (value_fine (items_of x) h.1.0)
+line_fine (line.Insert n i x) h = spaced ((spelled_with (codes "insert") (n ∷ []) ++ codes " ") ++ decimal i)
+    (spelled_value x)
+    (spaced (spelled_with (codes "insert") (n ∷ [])) (decimal i)
+    (one (codes "insert") n (word_fine (codes "insert") refl) h.0) (short_fine i h.1)) (value_fine x h.2.0)
+line_fine (line.Set n i x) h = spaced ((spelled_with (codes "set") (n ∷ []) ++ codes " ") ++ decimal i)
+    (spelled_value x)
+    (spaced (spelled_with (codes "set") (n ∷ [])) (decimal i)
+    (one (codes "set") n (word_fine (codes "set") refl) h.0) (short_fine i h.1)) (value_fine x h.2.0)
+line_fine (line.Remove n x) h = spaced (spelled_with (codes "remove") (n ∷ [])) (decimal x)
+    (one (codes "remove") n (word_fine (codes "remove") refl) h.0) (short_fine x h.1)
 line_fine (line.Clear n) h = one (codes "clear") n (word_fine (codes "clear") refl) h
-line_fine (line.Match n x) h = spaced (spelled_with (codes "match") (n ∷ [])) (spelled_matcher x) (one (codes "match") n (word_fine (codes "match") refl) h.0) (matcher_fine x h.1.0)
-line_fine (line.Order n x) h = spaced (spelled_with (codes "order") (n ∷ [])) (spelled_order x) (one (codes "order") n (word_fine (codes "order") refl) h.0) (order_fine x h.1)
-line_fine (line.Bounds n x) h = spaced (spelled_with (codes "bounds") (n ∷ [])) (spelled_bounds x) (one (codes "bounds") n (word_fine (codes "bounds") refl) h.0) (bounds_fine x h.1)
-line_fine (line.Apply n x) h = spaced (spelled_with (codes "apply") (n ∷ [])) (spelled_func x) (one (codes "apply") n (word_fine (codes "apply") refl) h.0) (func_fine x 8 h.1)
+line_fine (line.Match n x) h = spaced (spelled_with (codes "match") (n ∷ [])) (spelled_matcher x)
+    (one (codes "match") n (word_fine (codes "match") refl) h.0) (matcher_fine x h.1.0)
+line_fine (line.Order n x) h = spaced (spelled_with (codes "order") (n ∷ [])) (spelled_order x)
+    (one (codes "order") n (word_fine (codes "order") refl) h.0) (order_fine x h.1)
+line_fine (line.Bounds n x) h = spaced (spelled_with (codes "bounds") (n ∷ [])) (spelled_bounds x)
+    (one (codes "bounds") n (word_fine (codes "bounds") refl) h.0) (bounds_fine x h.1)
+line_fine (line.Apply n x) h = spaced (spelled_with (codes "apply") (n ∷ [])) (spelled_func x)
+    (one (codes "apply") n (word_fine (codes "apply") refl) h.0) (func_fine x 8 h.1)
 line_fine (line.Attach n m) h = two (codes "attach") n m (word_fine (codes "attach") refl) h.0 h.1
-line_fine (line.Detach n x) h = spaced (spelled_with (codes "detach") (n ∷ [])) (decimal x) (one (codes "detach") n (word_fine (codes "detach") refl) h.0) (short_fine x h.1)
+line_fine (line.Detach n x) h = spaced (spelled_with (codes "detach") (n ∷ [])) (decimal x)
+    (one (codes "detach") n (word_fine (codes "detach") refl) h.0) (short_fine x h.1)
 line_fine (line.Begin n) h = one (codes "begin") n (word_fine (codes "begin") refl) h
 line_fine (line.Commit n) h = one (codes "commit") n (word_fine (codes "commit") refl) h
 line_fine (line.Rollback n) h = one (codes "rollback") n (word_fine (codes "rollback") refl) h

@@ -36,7 +36,8 @@ last_line (b ∷ u) h t = subst (AllByRecursion IsUtf8) (sym (alone b u h)) (t, 
   where
     alone : (b : ℕ) (u : List ℕ) → HasNoFeed (b ∷ u) → lines_in (b ∷ u) ≡ (b ∷ u) ∷ []
     alone b [] h = ap (λ t. cond t ([] ∷ []) ((b ∷ []) ∷ [])) h.0
-    alone b (c ∷ u) h = ap (λ t. cond t ([] ∷ lines_in (c ∷ u)) (with_front b (lines_in (c ∷ u)))) h.0 ∙ ap (with_front b) (alone c u h.1)
+    alone b (c ∷ u) h = ap (λ t. cond t ([] ∷ lines_in (c ∷ u)) (with_front b (lines_in (c ∷ u)))) h.0
+        ∙ ap (with_front b) (alone c u h.1)
 
 lines_utf8_behind : (u rest : List ℕ) → HasNoFeed u → IsUtf8 (u ++ rest) → AllByRecursion IsUtf8 (lines_in (u ++ rest))
 lines_utf8_behind u [] h t = last_line_nil (append-nil u)
@@ -45,38 +46,46 @@ lines_utf8_behind u [] h t = last_line_nil (append-nil u)
     last_line_nil e = subst (λ w. AllByRecursion IsUtf8 (lines_in w)) (sym e) (last_line u h (subst IsUtf8 e t))
 lines_utf8_behind u (b ∷ rest) h t = by (λ w. lines_utf8_behind w rest) (b == 10) refl
   where
-    by : ((w : List ℕ) → HasNoFeed w → IsUtf8 (w ++ rest) → AllByRecursion IsUtf8 (lines_in (w ++ rest))) → (s : Bool) → (b == 10) ≡ s
+    by : ((w : List ℕ) → HasNoFeed w → IsUtf8 (w ++ rest) → AllByRecursion IsUtf8 (lines_in (w ++ rest))) → (s : Bool)
+        → (b == 10) ≡ s
         → AllByRecursion IsUtf8 (lines_in (u ++ b ∷ rest))
     by behind true e =
         let is : b ≡ 10 = grind (arith, nat_tests) in
-        let cut : IsUtf8 u × IsUtf8 rest = utf8_cut 10 u rest (omega arith) (subst (λ c. IsUtf8 (u ++ c ∷ rest)) is t) in
+        let cut : IsUtf8 u × IsUtf8 rest =
+        utf8_cut 10 u rest (omega arith) (subst (λ c. IsUtf8 (u ++ c ∷ rest)) is t) in
         subst (λ c. AllByRecursion IsUtf8 (lines_in (u ++ c ∷ rest))) (sym is)
         (subst (AllByRecursion IsUtf8) (sym (line_first u rest h)) (cut.0, behind [] tt cut.1))
     by behind false e =
         subst (λ w. AllByRecursion IsUtf8 (lines_in w)) (append_assoc u (b ∷ []) rest)
-        (behind (u ++ b ∷ []) (no_feed_append u (b ∷ []) h (e, tt)) (subst IsUtf8 (sym (append_assoc u (b ∷ []) rest)) t))
+        (behind (u ++ b ∷ []) (no_feed_append u (b ∷ []) h (e, tt))
+        (subst IsUtf8 (sym (append_assoc u (b ∷ []) rest)) t))
 
 pub lines_utf8 : (bytes : List ℕ) → IsUtf8 bytes → AllByRecursion IsUtf8 (lines_in bytes)
 lines_utf8 bytes t = lines_utf8_behind [] bytes tt t
 
 -- the fields of the records of a text
-records_texts : (rows : List (List (List ℕ))) (s t : State) (xs ys : List ℕ) → IsDefault s → IsUtf8 xs → Reached default_config s xs rows t ys → AllByRecursion AllText rows
+records_texts : (rows : List (List (List ℕ))) (s t : State) (xs ys : List ℕ) → IsDefault s → IsUtf8 xs
+    → Reached default_config s xs rows t ys → AllByRecursion AllText rows
 unfolding Reached
 records_texts [] s t xs ys h u r = tt
 records_texts (row ∷ rows) s t xs ys h u r =
     let of = subst OfText r.1 (record_texts s xs h u) in
     (subst AllText (sym r.2) of.0, records_texts rows r.0.1 t r.0.2 ys of.1 of.2 r.3)
 
-fields_literal : (fs : List (List ℕ)) (vs : List Tree) → AllText fs → AreFields fs vs → AreProper (trees vs) × (trees_nesting (trees vs) ≡ 0)
+fields_literal : (fs : List (List ℕ)) (vs : List Tree) → AllText fs → AreFields fs vs
+    → AreProper (trees vs) × (trees_nesting (trees vs) ≡ 0)
 unfolding AllText
 fields_literal [] [] h g = (tt, refl)
 fields_literal [] (v ∷ vs) h g = absurd g
 fields_literal (f ∷ fs) [] h g = absurd g
-fields_literal (f ∷ fs) (num n ∷ vs) h g = let more = fields_literal fs vs h.1 g.1 in ((g.0.0, more.0), ap (λ k. max 0 k) more.1)
-fields_literal (f ∷ fs) (text bytes ∷ vs) h g = let more = fields_literal fs vs h.1 g.1 in ((subst IsUtf8 (sym g.0.0) h.0, more.0), ap (λ k. max 0 k) more.1)
+fields_literal (f ∷ fs) (num n ∷ vs) h g = let more =
+    fields_literal fs vs h.1 g.1 in ((g.0.0, more.0), ap (λ k. max 0 k) more.1)
+fields_literal (f ∷ fs) (text bytes ∷ vs) h g = let more =
+    fields_literal fs vs h.1 g.1 in ((subst IsUtf8 (sym g.0.0) h.0, more.0), ap (λ k. max 0 k) more.1)
 fields_literal (f ∷ fs) (items ts ∷ vs) h g = absurd g.0
 
-rows_literal : (records : List (List (List ℕ))) (rows : List Tree) → AllByRecursion AllText records → AreRows records rows → AllByRecursion IsLiteral rows
+rows_literal : (records : List (List (List ℕ))) (rows : List Tree) → AllByRecursion AllText records
+    → AreRows records rows → AllByRecursion IsLiteral rows
 rows_literal [] [] h g = tt
 rows_literal [] (v ∷ vs) h g = absurd g
 rows_literal (r ∷ rs) [] h g = absurd g
@@ -89,7 +98,8 @@ rows_literal (r ∷ rs) (v ∷ vs) h g =
 
 block_literal : (block : List ℕ) (rows : List Tree) → IsUtf8 block → BlockHas block rows → AllByRecursion IsLiteral rows
 block_literal block rows t h =
-    rows_literal h.0 rows (records_texts h.0 StartRecord h.1.0 (strip_bom block) h.1.1 tt (without_mark block t) h.1.2) h.2
+    rows_literal h.0 rows
+    (records_texts h.0 StartRecord h.1.0 (strip_bom block) h.1.1 tt (without_mark block t) h.1.2) h.2
 
 -- the name of a line that opens a block
 opened_named : (l : Line) (named : Named) → opened_by l ≡ Some named → IsWithin l → IsNamed named
@@ -109,27 +119,33 @@ abbrev IsFineOutcome : Outcome → Type 0
 IsFineOutcome (all_read lines) = AllWithin lines
 IsFineOutcome (stopped f) = Unit {0}
 
-with_line : (before : List NumberedLine) (n : ℕ) (l : Line) → AllWithin before → IsWithin l → AllWithin (before ++ numbered n l ∷ [])
+with_line : (before : List NumberedLine) (n : ℕ) (l : Line) → AllWithin before → IsWithin l
+    → AllWithin (before ++ numbered n l ∷ [])
 with_line before n l h w = all_append (λ (k : NumberedLine). IsWithin k.what) before (numbered n l ∷ []) h (w, tt)
 
-comes_within : {mode : Mode} {before : List NumberedLine} {n : ℕ} {raws : List (List ℕ)} {out : Outcome} → Comes mode before n raws out
+comes_within : {mode : Mode} {before : List NumberedLine} {n : ℕ} {raws : List (List ℕ)} {out : Outcome}
+    → Comes mode before n raws out
     → IsFineMode mode → AllWithin before → AllByRecursion IsUtf8 raws → IsFineOutcome out
 comes_within at_end m h t = h
 comes_within (long l) m h t = tt
 comes_within (skipped l s c) m h t = comes_within c tt h t.1
 comes_within (formless column l s f) m h t = tt
 comes_within (misplaced k l s p) m h t = tt
-comes_within {before = before} {n = n} {raws = raw ∷ raws} (plain k l s p o c) m h t = comes_within c tt (with_line before n k h (spelled_within raw k s)) t.1
+comes_within {before = before} {n = n} {raws = raw ∷ raws} (plain k l s p o c) m h t =
+    comes_within c tt (with_line before n k h (spelled_within raw k s)) t.1
 comes_within {before = before} {n = n} {raws = raw ∷ raws} (opening k {named} l s p o c) m h t =
     let w : IsWithin k = spelled_within raw k s in
     comes_within c (opened_named k named o w, IsUtf8-nil) (with_line before n k h w) t.1
 comes_within {mode = inside i named block} {raws = raw ∷ raws} (in_block e c) m h t =
-    comes_within c (m.0, IsUtf8-append (block ++ raw) (10 ∷ []) (IsUtf8-append block raw m.1 t.0) (ascii_utf8 10 (omega arith))) h t.1
+    comes_within c
+    (m.0, IsUtf8-append (block ++ raw) (10 ∷ []) (IsUtf8-append block raw m.1 t.0) (ascii_utf8 10 (omega arith)))
+    h t.1
 comes_within {mode = inside i named block} {before = before} (closing {rows = rows} b c) m h t =
     comes_within c tt
     (all_append (λ (k : NumberedLine). IsWithin k.what) before (rows_of i named rows) h
     (all_map (λ (k : NumberedLine). IsWithin k.what) (λ row. numbered i (line.Row named row)) rows
-    (all_weaker IsLiteral (λ row. IsWithin (line.Row named row)) (λ row g. (m.0, g)) rows (block_literal block rows m.1 b)))) t.1
+    (all_weaker IsLiteral (λ row. IsWithin (line.Row named row)) (λ row g. (m.0, g)) rows
+    (block_literal block rows m.1 b)))) t.1
 comes_within endless m h t = tt
 
 pub read_within : (bytes : List ℕ) (lines : List NumberedLine) → ReadsTo bytes (all_read lines) → AllWithin lines

@@ -19,8 +19,10 @@ use Rattle.spec_plan_laws.proofs.Back.{spelled_back}
 -- the lines of a plan that a text spells are within the limits of the language
 pub written_within : (bytes : List ℕ) (p : Plan) → SpellsPlan bytes p → AllByRecursion IsWithin (lines_of_plan p)
 written_within bytes p spells =
-    let sound : IsWellFormed p = subst IsWellFormed (sym spells.makes) (sound_lines_well_formed spells.lines spells.sound) in
-    let good : IsGood p = subst IsGood (sym spells.makes) (made_good spells.lines (read_within bytes spells.lines spells.read)) in
+    let sound : IsWellFormed p =
+    subst IsWellFormed (sym spells.makes) (sound_lines_well_formed spells.lines spells.sound) in
+    let good : IsGood p =
+    subst IsGood (sym spells.makes) (made_good spells.lines (read_within bytes spells.lines spells.read)) in
     lines_within p sound good
 
 pub rewritten : (bytes : List ℕ) (p : Plan) → SpellsPlan bytes p → HasShortLines p → SpellsPlan (spelled_plan p) p

@@ -31,7 +31,8 @@ mutual
 
   elements_fine : (ts : Trees) → AreProper ts → IsFine (spelled_elements ts)
   elements_fine none h = fine_nil
-  elements_fine (more t ts) h = fine_append (spelled_value t) (spelled_others ts) (value_fine t h.0) (others_fine ts h.1)
+  elements_fine (more t ts) h = fine_append (spelled_value t) (spelled_others ts) (value_fine t h.0)
+      (others_fine ts h.1)
 
   others_fine : (ts : Trees) → AreProper ts → IsFine (spelled_others ts)
   others_fine none h = fine_nil
@@ -61,18 +62,23 @@ key_fine key h = fine_append _ (spelled_path key.path) (down key.down) (path_fin
 
 keys_fine : (keys : List Key) → AllByRecursion (λ (key : Key). IsPath key.path) keys → IsFine (spelled_keys keys)
 keys_fine [] h = fine_nil
-keys_fine (key ∷ keys) h = between (codes ", ") (spelled_key key) (spelled_keys keys) (word_fine (codes ", ") refl) (key_fine key h.0) (keys_fine keys h.1)
+keys_fine (key ∷ keys) h = between (codes ", ") (spelled_key key) (spelled_keys keys) (word_fine (codes ", ") refl)
+    (key_fine key h.0) (keys_fine keys h.1)
 
 pub order_fine : (keys : List Key) → IsOrder keys → IsFine (spelled_order keys)
 order_fine [] h = fine_nil
-order_fine (key ∷ keys) h = fine_append (spelled_key key) (spelled_keys keys) (key_fine key h.2.0) (keys_fine keys h.2.1)
+order_fine (key ∷ keys) h = fine_append (spelled_key key) (spelled_keys keys) (key_fine key h.2.0)
+    (keys_fine keys h.2.1)
 
 pub short_fine : (n : ℕ) → n ≤ 4294967295 → IsFine (decimal n)
 short_fine n l = decimal_fine n (omega (arith, l))
 
-ends_fine : (word : List ℕ) (start end : ℕ) → IsFine word → (start ≤ 4294967295) × (end ≤ 4294967295) → IsFine (word ++ decimal start ++ codes " " ++ decimal end)
+ends_fine : (word : List ℕ) (start end : ℕ) → IsFine word → (start ≤ 4294967295) × (end ≤ 4294967295)
+    → IsFine (word ++ decimal start ++ codes " " ++ decimal end)
 ends_fine word start end w h =
-    fine_append ((word ++ decimal start) ++ codes " ") (decimal end) (between word (decimal start) (codes " ") w (short_fine start h.0) (word_fine (codes " ") refl)) (short_fine end h.1)
+    fine_append ((word ++ decimal start) ++ codes " ") (decimal end)
+    (between word (decimal start) (codes " ") w (short_fine start h.0) (word_fine (codes " ") refl))
+    (short_fine end h.1)
 
 pub bounds_fine : (b : Bounds) → IsBounds b → IsFine (spelled_bounds b)
 bounds_fine (Head start end) h = ends_fine (codes "head ") start end (word_fine (codes "head ") refl) h
@@ -80,27 +86,34 @@ bounds_fine (Tail start end) h = ends_fine (codes "tail ") start end (word_fine 
 bounds_fine (Middle start end) h = ends_fine (codes "middle ") start end (word_fine (codes "middle ") refl) h
 
 pair_fine : (word u v : List ℕ) → IsFine word → IsFine u → IsFine v → IsFine (word ++ u ++ codes "," ++ v ++ codes ")")
-pair_fine word u v w h k = between ((word ++ u) ++ codes ",") v (codes ")") (between word u (codes ",") w h (word_fine (codes ",") refl)) k (word_fine (codes ")") refl)
+pair_fine word u v w h k = between ((word ++ u) ++ codes ",") v (codes ")")
+    (between word u (codes ",") w h (word_fine (codes ",") refl)) k (word_fine (codes ")") refl)
 
 mutual
   pub func_fine : (f : func.Func) (depth : ℕ) → IsFunc depth f → IsFine (spelled_func f)
   func_fine (func.at_path path) depth h = path_fine path h
   func_fine (func.number n) depth h = signed_fine n h
   func_fine (func.bytes bs) depth h = value_fine (text bs) h
-  func_fine (func.count path) depth h = between (codes "count(") (spelled_path path) (codes ")") (word_fine (codes "count(") refl) (path_fine path h) (word_fine (codes ")") refl)
-  func_fine (func.total path each) depth h = pair_fine (codes "sum(") (spelled_path path) (spelled_path each) (word_fine (codes "sum(") refl) (path_fine path h.0) (path_fine each h.1)
+  func_fine (func.count path) depth h = between (codes "count(") (spelled_path path) (codes ")")
+      (word_fine (codes "count(") refl) (path_fine path h) (word_fine (codes ")") refl)
+  func_fine (func.total path each) depth h = pair_fine (codes "sum(") (spelled_path path) (spelled_path each)
+      (word_fine (codes "sum(") refl) (path_fine path h.0) (path_fine each h.1)
   func_fine (func.sum f g) zero h = absurd h
-  func_fine (func.sum f g) (suc depth) h = pair_fine (codes "add(") (spelled_func f) (spelled_func g) (word_fine (codes "add(") refl) (func_fine f depth h.0) (func_fine g depth h.1)
+  func_fine (func.sum f g) (suc depth) h = pair_fine (codes "add(") (spelled_func f) (spelled_func g)
+      (word_fine (codes "add(") refl) (func_fine f depth h.0) (func_fine g depth h.1)
   func_fine (func.list fs) zero h = absurd h
-  func_fine (func.list fs) (suc depth) h = between (codes "[") (spelled_funcs fs) (codes "]") (word_fine (codes "[") refl) (funcs_fine fs depth h) (word_fine (codes "]") refl)
+  func_fine (func.list fs) (suc depth) h = between (codes "[") (spelled_funcs fs) (codes "]")
+      (word_fine (codes "[") refl) (funcs_fine fs depth h) (word_fine (codes "]") refl)
 
   funcs_fine : (fs : func.Funcs) (depth : ℕ) → AreFuncs depth fs → IsFine (spelled_funcs fs)
   funcs_fine func.none depth h = fine_nil
-  funcs_fine (func.more f fs) depth h = fine_append (spelled_func f) (spelled_other_funcs fs) (func_fine f depth h.0) (other_funcs_fine fs depth h.1)
+  funcs_fine (func.more f fs) depth h = fine_append (spelled_func f) (spelled_other_funcs fs) (func_fine f depth h.0)
+      (other_funcs_fine fs depth h.1)
 
   other_funcs_fine : (fs : func.Funcs) (depth : ℕ) → AreFuncs depth fs → IsFine (spelled_other_funcs fs)
   other_funcs_fine func.none depth h = fine_nil
-  other_funcs_fine (func.more f fs) depth h = between (codes ",") (spelled_func f) (spelled_other_funcs fs) (word_fine (codes ",") refl) (func_fine f depth h.0) (other_funcs_fine fs depth h.1)
+  other_funcs_fine (func.more f fs) depth h = between (codes ",") (spelled_func f) (spelled_other_funcs fs)
+      (word_fine (codes ",") refl) (func_fine f depth h.0) (other_funcs_fine fs depth h.1)
 
 test_fine : (t : Test) → IsFine (spelled_test t)
 test_fine Eq = word_fine (codes " = ") refl
@@ -118,30 +131,36 @@ mutual
   pub matcher_fine : (m : meant.Matcher) → IsMatcher m → IsFine (spelled_matcher m)
   matcher_fine meant.all h = word_fine (codes "all") refl
   matcher_fine meant.nothing h = word_fine (codes "none") refl
-  matcher_fine (meant.is path test literal) h = between (spelled_path path) (spelled_test test) (spelled_value literal) (path_fine path h.0) (test_fine test) (value_fine literal h.1)
+  matcher_fine (meant.is path test literal) h = between (spelled_path path) (spelled_test test)
+      (spelled_value literal) (path_fine path h.0) (test_fine test) (value_fine literal h.1)
   matcher_fine (meant.negation m) h =
-      fine_append (codes "not ") (enclosed_if (is_joined m) (spelled_matcher m)) (word_fine (codes "not ") refl) (enclosed_fine (is_joined m) (spelled_matcher m) (matcher_fine m h))
+      fine_append (codes "not ") (enclosed_if (is_joined m) (spelled_matcher m)) (word_fine (codes "not ") refl)
+      (enclosed_fine (is_joined m) (spelled_matcher m) (matcher_fine m h))
   matcher_fine (meant.both ms) h = units_fine ms h.1
   matcher_fine (meant.either ms) h = choices_fine ms h.1
 
   units_fine : (ms : meant.Matchers) → AreMatchers ms → IsFine (spelled_units ms)
   units_fine meant.none h = fine_nil
   units_fine (meant.more m ms) h =
-      fine_append (enclosed_if (is_joined m) (spelled_matcher m)) (spelled_other_units ms) (enclosed_fine (is_joined m) (spelled_matcher m) (matcher_fine m h.0)) (other_units_fine ms h.1)
+      fine_append (enclosed_if (is_joined m) (spelled_matcher m)) (spelled_other_units ms)
+      (enclosed_fine (is_joined m) (spelled_matcher m) (matcher_fine m h.0)) (other_units_fine ms h.1)
 
   other_units_fine : (ms : meant.Matchers) → AreMatchers ms → IsFine (spelled_other_units ms)
   other_units_fine meant.none h = fine_nil
   other_units_fine (meant.more m ms) h =
-      between (codes " and ") (enclosed_if (is_joined m) (spelled_matcher m)) (spelled_other_units ms) (word_fine (codes " and ") refl)
+      between (codes " and ") (enclosed_if (is_joined m) (spelled_matcher m)) (spelled_other_units ms)
+      (word_fine (codes " and ") refl)
       (enclosed_fine (is_joined m) (spelled_matcher m) (matcher_fine m h.0)) (other_units_fine ms h.1)
 
   choices_fine : (ms : meant.Matchers) → AreMatchers ms → IsFine (spelled_choices ms)
   choices_fine meant.none h = fine_nil
   choices_fine (meant.more m ms) h =
-      fine_append (enclosed_if (is_choice m) (spelled_matcher m)) (spelled_other_choices ms) (enclosed_fine (is_choice m) (spelled_matcher m) (matcher_fine m h.0)) (other_choices_fine ms h.1)
+      fine_append (enclosed_if (is_choice m) (spelled_matcher m)) (spelled_other_choices ms)
+      (enclosed_fine (is_choice m) (spelled_matcher m) (matcher_fine m h.0)) (other_choices_fine ms h.1)
 
   other_choices_fine : (ms : meant.Matchers) → AreMatchers ms → IsFine (spelled_other_choices ms)
   other_choices_fine meant.none h = fine_nil
   other_choices_fine (meant.more m ms) h =
-      between (codes " or ") (enclosed_if (is_choice m) (spelled_matcher m)) (spelled_other_choices ms) (word_fine (codes " or ") refl)
+      between (codes " or ") (enclosed_if (is_choice m) (spelled_matcher m)) (spelled_other_choices ms)
+      (word_fine (codes " or ") refl)
       (enclosed_fine (is_choice m) (spelled_matcher m) (matcher_fine m h.0)) (other_choices_fine ms h.1)

@@ -4,4 +4,6 @@ use Rattle.gl_plan_spelling.specs.Texts.{names_of_decls, listener_names, listene
 use Rattle.gl_plan_spelling.proofs.listener.add_listeners.Given as goal
 
 abbrev pub invariant-listeners : goal.invariant-listeners
-invariant-listeners l = l.out ≡ l.initial.out ++ flat_map (listener_text (names_of_decls l.lists) (listener_names l.listeners)) (take l.decl-index l.listeners)
+invariant-listeners l =
+    l.out ≡ l.initial.out ++ flat_map (listener_text (names_of_decls l.lists) (listener_names l.listeners))
+    (take l.decl-index l.listeners)

@@ -6,4 +6,5 @@ use Rattle.gl_plan_spelling.proofs.name.add_names.Given as goal
 
 -- what is written and what is left are the whole
 abbrev pub invariant-names : goal.invariant-names
-invariant-names l = l.out ++ spelled_names (map (named (names_of_decls l.lists)) (drop l.number-index l.numbers)) ≡ l.initial.out ++ spelled_names (map (named (names_of_decls l.lists)) l.numbers)
+invariant-names l = l.out ++ spelled_names (map (named (names_of_decls l.lists)) (drop l.number-index l.numbers))
+    ≡ l.initial.out ++ spelled_names (map (named (names_of_decls l.lists)) l.numbers)

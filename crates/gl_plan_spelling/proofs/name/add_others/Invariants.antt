@@ -6,4 +6,5 @@ use Rattle.gl_plan_spelling.proofs.name.add_others.Given as goal
 
 -- what is written and what is left are the whole
 abbrev pub invariant-names : goal.invariant-names
-invariant-names l = l.out ++ spelled_others (map (named (listener_names l.listeners)) (drop l.number-index l.numbers)) ≡ l.initial.out ++ spelled_others (map (named (listener_names l.listeners)) l.numbers)
+invariant-names l = l.out ++ spelled_others (map (named (listener_names l.listeners)) (drop l.number-index l.numbers))
+    ≡ l.initial.out ++ spelled_others (map (named (listener_names l.listeners)) l.numbers)

@@ -9,6 +9,8 @@ pub sections-preserved : goal.sections-preserved
 sections-preserved c =
     let names = names_of_lists c.args.plan.now in
     let sections = sections_of c.args.plan.now c.args.writer in
-    let written : c.add_section.new.out ≡ c.sections.out ++ section_text names (commands_of c.args.plan.now c.args.writer c.sections.section) = search rules in
+    let written : c.add_section.new.out ≡ c.sections.out ++ section_text names
+    (commands_of c.args.plan.now c.args.writer c.sections.section) = search rules in
     let within : c.sections.section < length sections = search rules in
-    one_more (section_text names) sections c.sections.section [] c.sections.out c.add_section.new.out _ within written c.sections.invariant
+    one_more (section_text names) sections c.sections.section [] c.sections.out c.add_section.new.out _ within written
+    c.sections.invariant

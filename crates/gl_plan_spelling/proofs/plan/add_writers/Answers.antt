@@ -8,6 +8,8 @@ use Rattle.gl_plan_spelling.proofs.plan.add_writers.Goals as goal
 pub writers-preserved : goal.writers-preserved
 writers-preserved c =
     let names = names_of_lists c.args.plan.now in
-    let written : c.add_writer.new.out ≡ c.writers.out ++ writer_text names (sections_of c.args.plan.now c.writers.writer) = search rules in
+    let written : c.add_writer.new.out ≡ c.writers.out ++ writer_text names
+    (sections_of c.args.plan.now c.writers.writer) = search rules in
     let within : c.writers.writer < length c.args.plan.now.writers = search rules in
-    one_more (writer_text names) c.args.plan.now.writers c.writers.writer [] c.writers.out c.add_writer.new.out _ within written c.writers.invariant
+    one_more (writer_text names) c.args.plan.now.writers c.writers.writer [] c.writers.out c.add_writer.new.out _
+    within written c.writers.invariant

@@ -6,4 +6,5 @@ use Rattle.gl_plan_spelling.proofs.plan.add_writers.Given as goal
 
 -- what is written and what is left are the whole
 abbrev pub invariant-writers : goal.invariant-writers
-invariant-writers l = l.out ++ flat_map (writer_text (names_of_lists l.plan)) (drop l.writer l.plan.writers) ≡ l.initial.out ++ flat_map (writer_text (names_of_lists l.plan)) l.plan.writers
+invariant-writers l = l.out ++ flat_map (writer_text (names_of_lists l.plan)) (drop l.writer l.plan.writers)
+    ≡ l.initial.out ++ flat_map (writer_text (names_of_lists l.plan)) l.plan.writers
