@@ -67,7 +67,8 @@ pub fn name_index_value(
     out: &mut Bytes,
 ) -> Result<(), Memory>
     ensures { OnOk result
-        (out.new ≡ out.old ++ with_tail word.now (at 0 list.now ∷ []) (decimal index ++ codes " " ++ spelled_value value.now)) }
+        (out.new ≡ out.old
+        ++ with_tail word.now (at 0 list.now ∷ []) (decimal index ++ codes " " ++ spelled_value value.now)) }
 {
     name_index(word, list, index, out)?;
     out.push_all(b" ")?;
@@ -123,7 +124,8 @@ pub fn names_matcher(
     matcher: &Matcher,
     out: &mut Bytes,
 ) -> Result<(), Memory>
-    ensures { OnOk result (out.new ≡ out.old ++ with_tail word.now (at 0 name.now ∷ at 0 input.now ∷ []) (spelled_matcher matcher.now)) }
+    ensures { OnOk result
+        (out.new ≡ out.old ++ with_tail word.now (at 0 name.now ∷ at 0 input.now ∷ []) (spelled_matcher matcher.now)) }
 {
     two_names(word, name, input, out)?;
     out.push_all(b" ")?;
@@ -138,7 +140,8 @@ pub fn names_order(
     order: &Order,
     out: &mut Bytes,
 ) -> Result<(), Memory>
-    ensures { OnOk result (out.new ≡ out.old ++ with_tail word.now (at 0 name.now ∷ at 0 input.now ∷ []) (spelled_order order.now)) }
+    ensures { OnOk result
+        (out.new ≡ out.old ++ with_tail word.now (at 0 name.now ∷ at 0 input.now ∷ []) (spelled_order order.now)) }
 {
     two_names(word, name, input, out)?;
     out.push_all(b" ")?;
@@ -153,7 +156,8 @@ pub fn names_bounds(
     bounds: Bounds,
     out: &mut Bytes,
 ) -> Result<(), Memory>
-    ensures { OnOk result (out.new ≡ out.old ++ with_tail word.now (at 0 name.now ∷ at 0 input.now ∷ []) (spelled_bounds bounds)) }
+    ensures { OnOk result
+        (out.new ≡ out.old ++ with_tail word.now (at 0 name.now ∷ at 0 input.now ∷ []) (spelled_bounds bounds)) }
 {
     two_names(word, name, input, out)?;
     out.push_all(b" ")?;
@@ -168,7 +172,8 @@ pub fn names_func(
     func: &Func,
     out: &mut Bytes,
 ) -> Result<(), Memory>
-    ensures { OnOk result (out.new ≡ out.old ++ with_tail word.now (at 0 name.now ∷ at 0 input.now ∷ []) (spelled_func func.now)) }
+    ensures { OnOk result
+        (out.new ≡ out.old ++ with_tail word.now (at 0 name.now ∷ at 0 input.now ∷ []) (spelled_func func.now)) }
 {
     two_names(word, name, input, out)?;
     out.push_all(b" ")?;
@@ -183,7 +188,8 @@ pub fn names_path(
     path: &Path,
     out: &mut Bytes,
 ) -> Result<(), Memory>
-    ensures { OnOk result (out.new ≡ out.old ++ with_tail word.now (at 0 name.now ∷ at 0 input.now ∷ []) (spelled_path path.now)) }
+    ensures { OnOk result
+        (out.new ≡ out.old ++ with_tail word.now (at 0 name.now ∷ at 0 input.now ∷ []) (spelled_path path.now)) }
 {
     two_names(word, name, input, out)?;
     out.push_all(b" ")?;

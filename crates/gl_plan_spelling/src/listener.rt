@@ -15,7 +15,8 @@ pub(crate) fn add_listeners(
     out: &mut Bytes,
 ) -> Result<(), Memory>
     ensures { OnOk result
-        (out.new ≡ out.old ++ flat_map (listener_text (names_of_decls lists.now) (listener_names listeners.now)) listeners.now) }
+        (out.new ≡ out.old
+        ++ flat_map (listener_text (names_of_decls lists.now) (listener_names listeners.now)) listeners.now) }
 {
     'listeners: for decl in listeners {
         add_listener(lists, listeners, decl, out)?;

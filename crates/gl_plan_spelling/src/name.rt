@@ -79,7 +79,8 @@ pub(crate) fn add_after(
 }
 
 fn add_others(listeners: &[ListenerDecl], numbers: &[u32], out: &mut Bytes) -> Result<(), Memory>
-    ensures { OnOk result (out.new ≡ out.old ++ spelled_others (map (named (listener_names listeners.now)) numbers.now)) }
+    ensures { OnOk result
+        (out.new ≡ out.old ++ spelled_others (map (named (listener_names listeners.now)) numbers.now)) }
 {
     'names: for number in numbers {
         add_behind_comma(listeners, *number, out)?;

@@ -17,9 +17,10 @@ use gl_syntax::{Bytes, Memory};
 use gl_whole_plan::Plan;
 use std::alloc::Global;
 
-/// Adds the one text of the plan; where memory runs out the bytes are as before. It takes memory for the text beside them
-/// while it writes, and time in proportion to the text. What is added of a plan that was read from any text reads back
-/// as that plan, where each line of it is short enough to be read: an element of a block of records may have no such line.
+/// Adds the one text of the plan; where memory runs out the bytes are as before. It takes memory for the text beside
+/// them while it writes, and time in proportion to the text. What is added of a plan that was read from any text reads
+/// back as that plan, where each line of it is short enough to be read: an element of a block of records may have no
+/// such line.
 pub fn write_plan(alloc: Global, plan: &Plan, out: &mut Bytes) -> Result<(), Memory>
     ensures ok { OnOk result (out.new ≡ out.old ++ spelled_plan plan.now) }
     ensures back { (bytes : List ℕ) → SpellsPlan bytes plan.now → HasShortLines plan.now
