@@ -7,5 +7,7 @@ mod list;
 mod listener;
 mod name;
 mod plan;
+#[cfg(test)]
+mod tests;
 
 pub use plan::write_plan;
