@@ -16,8 +16,8 @@ use Rattle.spec_states.proofs.Settling.{settled_is}
 use Rattle.spec_states.proofs.Views.{view_local}
 use Rattle.gl_delta.specs.declared.find.Find.{Find}
 use Rattle.gl_kernel.specs.Found.{found}
-use Rattle.gl_graph.specs.declared.node.Kernel.{Kernel}
-use Rattle.gl_graph.specs.declared.node.Kernel.TheVariants.{Source, Filter, Range, Function}
+use Rattle.gl_graph.specs.declared.kernel.Kernel.{Kernel}
+use Rattle.gl_graph.specs.declared.kernel.Kernel.TheVariants.{Source, Filter, Range, Function}
 use Rattle.gl_graph.specs.declared.node.Node.{Node}
 use Rattle.gl_graph.specs.Nodes.{own_of, own_of_node, own_in, state_of, numbers, shown_by, input_of, input_shown, OnInput, StandsFor, IsPlaced, IsInTurn, AreInTurn, IsSettled, AreSettled}
 

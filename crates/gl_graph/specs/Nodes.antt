@@ -7,8 +7,8 @@ use Rattle.spec_states.specs.Shown.{nothing_shown, settled, shows_in}
 use Rattle.gl_filter.specs.Stands as filter
 use Rattle.gl_range.specs.Stands as range
 use Rattle.gl_function.specs.Stands as function
-use Rattle.gl_graph.specs.declared.node.Kernel.{Kernel}
-use Rattle.gl_graph.specs.declared.node.Kernel.TheVariants.{Source, Filter, Range, Function}
+use Rattle.gl_graph.specs.declared.kernel.Kernel.{Kernel}
+use Rattle.gl_graph.specs.declared.kernel.Kernel.TheVariants.{Source, Filter, Range, Function}
 use Rattle.gl_graph.specs.declared.node.Node.{Node}
 
 -- what a kernel keeps of its own

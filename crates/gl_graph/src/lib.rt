@@ -2,9 +2,14 @@
 //! an element is found by way of the lists that it comes from.
 #![tactic(auto)]
 
+mod follow;
+mod kernel;
 mod node;
 mod seen;
+mod undo;
 
 pub use gl_value::Memory;
-pub use node::{Kernel, Node};
+pub use kernel::Kernel;
+pub use node::Node;
 pub use seen::Seen;
+pub use undo::KernelUndo;
