@@ -1,3 +1,4 @@
 pub mod Nodes
 pub mod Kept
 pub mod Undos
+pub mod Commands

@@ -2,6 +2,7 @@
 //! an element is found by way of the lists that it comes from.
 #![tactic(auto)]
 
+mod change;
 mod follow;
 mod kernel;
 mod node;
