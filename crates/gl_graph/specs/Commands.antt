@@ -1,13 +1,17 @@
 -- Which commands suit which lists, and the edits of sources that they come to.
-use Rattle.std.specs.Prelude.{ℕ, List, [], ◌∷◌, length, Option, None}
+use Rattle.std.specs.Prelude.{◌≡◌, ◌<◌, ◌≤◌, ℕ, List, [], ◌∷◌, length, Option, None, Some}
 use Rattle.spec_value.specs.Tree.{Tree}
 use Rattle.gl_lines.specs.declared.plan.Command.{Command}
 use Rattle.gl_lines.specs.declared.plan.Command.TheVariants as c
 use Rattle.gl_lines.specs.declared.reply.Reply.{Reply}
+use Rattle.gl_lines.specs.declared.reply.Reply.TheVariants as reply
 use Rattle.gl_source.specs.declared.edit.Edit.{Edit}
 use Rattle.gl_source.specs.declared.edit.Edit.TheVariants as e
 use Rattle.spec_states.specs.State.{Own, source, filtering, ranging, mapping, unbuilt}
-use Rattle.spec_states.specs.Step.{out_of_range, past_end}
+use Rattle.gl_source.specs.declared.fault.EditFault.{EditFault}
+use Rattle.gl_source.specs.declared.fault.EditFault.TheVariants.{OutOfRange, TooLong, Memory}
+use Rattle.spec_states.specs.Step.{out_of_range, past_end, contents_len}
+use Rattle.spec_states.specs.Wave.{kept_after}
 
 -- the command edits a source
 abbrev pub IsEdit : Command → Type 0
@@ -55,3 +59,20 @@ refused (c.Insert list index value) len = past_end index len
 refused (c.Set list index value) len = out_of_range index len
 refused (c.Remove list index) len = out_of_range index len
 refused other len = None
+
+-- the edit has its place, and would make the source longer than it may be
+pub record IsTooLong (command : Command) (own : Own) (limit len : ℕ) : Type 0 where
+  pub inside : refused command (contents_len own) ≡ None
+  pub past : limit < len
+  pub len_is : len ≡ contents_len (kept_after command own)
+
+-- this is why a source that keeps this isn't edited, where it may have so many elements
+abbrev pub IsWhy : Command → Own → ℕ → EditFault → Type 0
+IsWhy command own limit (OutOfRange index len) = refused command (contents_len own) ≡ Some (reply.OutOfRange index len)
+IsWhy command own limit (TooLong len) = IsTooLong command own limit len
+IsWhy command own limit Memory = Unit {0}
+
+-- the edit has its place, and leaves the source no longer than it may be
+pub record IsMade (command : Command) (own : Own) (limit : ℕ) : Type 0 where
+  pub inside : refused command (contents_len own) ≡ None
+  pub few : contents_len (kept_after command own) ≤ limit

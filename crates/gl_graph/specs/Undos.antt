@@ -1,5 +1,5 @@
 -- What the undos of kernels give back.
-use Rattle.std.specs.Prelude.{◌≡◌, ℕ, List}
+use Rattle.std.specs.Prelude.{◌≡◌, ℕ, List, Option, Some, None}
 use Rattle.spec_value.specs.Tree.{Tree}
 use Rattle.gl_source.specs.Stands as source
 use Rattle.gl_filter.specs.Stands as filter
@@ -30,6 +30,13 @@ room_of (Source k) = k.room
 room_of (Filter input k) = k.room
 room_of (Range input k) = 0
 room_of (Function input k) = k.room
+
+-- how many elements a source may have; of other kernels nothing is said
+abbrev pub limit_of : Kernel → Option ℕ
+limit_of (Source k) = Some k.limit
+limit_of (Filter input k) = None
+limit_of (Range input k) = None
+limit_of (Function input k) = None
 
 -- what an undo makes of a kernel; one of another kind makes nothing of it
 abbrev pub before : KernelUndo → Kernel → Contents
