@@ -2,3 +2,4 @@ pub mod Nodes
 pub mod Kept
 pub mod Undos
 pub mod Commands
+pub mod Graph

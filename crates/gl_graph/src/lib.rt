@@ -5,12 +5,14 @@
 mod change;
 mod edit;
 mod follow;
+mod graph;
 mod kernel;
 mod node;
 mod seen;
 mod undo;
 
 pub use gl_value::Memory;
+pub use graph::Graph;
 pub use kernel::Kernel;
 pub use node::Node;
 pub use seen::Seen;

@@ -1,0 +1,103 @@
+-- What a list shows by the nodes at the front, and by all.
+use Rattle.std.proofs.Common.{◌≡◌, ◌∙◌, ℕ, zero, suc, ◌<◌, ◌≤◌, List, [], ◌∷◌, length, map, take, refl, ap, sym, subst, arith, inl, inr}
+use Rattle.std.specs.Prelude.{Option, Some, None, slice_get, slice_index, unwrap_or}
+use Rattle.std.specs.List.{Contains}
+use Rattle.std.proofs.lemmas.Option.{slice_get_past, slice_get_within}
+use Rattle.std.proofs.lemmas.List.FromFn.{length-map-range_with_len}
+use Rattle.spec_order.proofs.Members.{Contains-cons_cases}
+use Rattle.spec_value.specs.Tree.{Tree}
+use Rattle.spec_states.specs.State.{State, inputs, turns}
+use Rattle.spec_states.specs.Shown.{view, shown, shows_in, settled, nothing_shown, table_of}
+use Rattle.spec_states.proofs.Views.{view_local, length-table_of}
+use Rattle.gl_graph.specs.declared.kernel.Kernel.{Kernel}
+use Rattle.gl_graph.specs.declared.kernel.Kernel.TheVariants.{Source, Filter, Range, Function}
+use Rattle.gl_graph.specs.declared.node.Node.{Node}
+use Rattle.gl_graph.specs.Nodes.{own_of, own_in, state_of, numbers, shown_by, OnInput, IsPlaced, IsInTurn, AreInTurn}
+use Rattle.gl_graph.specs.Graph.{IsGraph}
+use Rattle.gl_graph.proofs.Showing.{turn_shows, placed_before}
+
+-- the node of a number
+pub record IsNodeOf (nodes : List Node) (place list : ℕ) : Type 0 where
+  pub node : Node
+  pub is : slice_get nodes place ≡ Some node
+  pub same : node.list ≡ list
+
+pub node_of : (nodes : List Node) (place list : ℕ) → slice_get (numbers nodes) place ≡ Some list → IsNodeOf nodes place list
+node_of [] place list e = absurd cc
+node_of (n ∷ nodes) zero list e = record { node = n; is = refl; same = cc }
+node_of (n ∷ nodes) (suc place) list e = let h = node_of nodes place list e in record { node = h.node; is = h.is; same = h.same }
+
+one : (P : ℕ → Type 0) (input i : ℕ) → P input → Contains (input ∷ []) i → P i
+one P input i h c = elim (Contains-cons_cases input [] i c) [
+  | inl e ↦ subst P e h
+  | inr nothing ↦ absurd (omega (arith, nothing.1))
+]
+
+-- said of each input
+pub each_input : (P : ℕ → Type 0) (kernel : Kernel) (i : ℕ) → OnInput P kernel → Contains (inputs (own_of kernel)) i → P i
+each_input P (Source k) i h c = absurd (omega (arith, c.1))
+each_input P (Filter input k) i h c = one P input i h c
+each_input P (Range input k) i h c = one P input i h c
+each_input P (Function input k) i h c = one P input i h c
+
+get_node_front : (nodes : List Node) (n k : ℕ) (node : Node) → slice_get (take n nodes) k ≡ Some node → (slice_get nodes k ≡ Some node) × (k < n)
+get_node_front nodes zero k node e = absurd cc
+get_node_front [] (suc n) k node e = absurd cc
+get_node_front (m ∷ nodes) (suc n) zero node e = (e, omega arith)
+get_node_front (m ∷ nodes) (suc n) (suc k) node e = let h = get_node_front nodes n k node e in (h.0, (let lower : k < n = h.1 in omega (arith, lower)))
+
+take_lower : (nodes : List Node) (p n : ℕ) → p ≤ n → take p (take n nodes) ≡ take p nodes
+take_lower nodes zero n h = refl
+take_lower nodes (suc p) zero h = absurd (omega (arith, h))
+take_lower [] (suc p) (suc n) h = refl
+take_lower (m ∷ nodes) (suc p) (suc n) h = ap (λ xs. m ∷ xs) (take_lower nodes p n (omega arith))
+
+-- the nodes at the front of nodes in turn are in turn
+pub front_turns : (nodes : List Node) (places : List ℕ) (n : ℕ) → AreInTurn nodes places → AreInTurn (take n nodes) places
+front_turns nodes places n turns place node is =
+    let found = get_node_front nodes n place node is in
+    let turn = turns place node found.0 in
+    let lower : place < n = found.1 in
+    record {
+      within = turn.within;
+      placed = turn.placed;
+      behind = subst (λ xs. OnInput (IsPlaced xs places) node.kernel) (sym (take_lower nodes place n (omega (arith, lower)))) turn.behind;
+    }
+
+placed_lower : (nodes : List Node) (places : List ℕ) (p n i : ℕ) → p ≤ n → IsPlaced (take p nodes) places i → IsPlaced (take n nodes) places i
+placed_lower nodes places p n i h placed = (placed_before (take n nodes) places p i (subst (λ xs. IsPlaced xs places i) (sym (take_lower nodes p n h)) placed)).0
+
+-- a list shows the same by the nodes at the front as by all
+pub front_shows : (nodes : List Node) (places : List ℕ) (n list : ℕ) → AreInTurn nodes places → IsPlaced (take n nodes) places list → shown_by (take n nodes) places list ≡ shown_by nodes places list
+front_shows nodes places n list turns placed = by_place (suc (slice_index places list)) list (omega arith) placed
+  where
+    by_place : (m i : ℕ) → slice_index places i < m → IsPlaced (take n nodes) places i → shown_by (take n nodes) places i ≡ shown_by nodes places i
+    by_place zero i below at = absurd (omega (arith, below))
+    by_place (suc m) i below at =
+        let p : ℕ = slice_index places i in
+        let h = node_of (take n nodes) p i at.there in
+        let node = h.node in
+        let found = get_node_front nodes n p node h.is in
+        let lower : p < n = found.1 in
+        let before = shown_by (take n nodes) places in
+        let after = shown_by nodes places in
+        let short : before node.list ≡ view (own_of node.kernel) before = turn_shows (take n nodes) places p node (front_turns nodes places n turns) h.is in
+        let long : after node.list ≡ view (own_of node.kernel) after = turn_shows nodes places p node turns found.0 in
+        let inner : (j : ℕ) → Contains (inputs (own_of node.kernel)) j → before j ≡ after j =
+        λ j c.
+        let there : IsPlaced (take p nodes) places j = each_input (IsPlaced (take p nodes) places) node.kernel j (turns p node found.0).behind c in
+        let below_p : slice_index places j < p = (placed_before nodes places p j there).1 in
+        by_place m j (omega (arith, below, below_p)) (placed_lower nodes places p n j (omega (arith, lower)) there) in
+        subst (λ l. before l ≡ after l) h.same (short ∙ (view_local (own_of node.kernel) before after inner ∙ sym long))
+
+-- what the nodes of a graph show is what its state shows
+pub graph_shows : (limit : ℕ) (nodes : List Node) (places : List ℕ) (list : ℕ) → IsGraph limit nodes places → shown_by nodes places list ≡ shown (state_of nodes places) list
+graph_shows limit nodes places list h =
+    let s : State = state_of nodes places in
+    ap (λ ks. shows_in (settled s (nothing_shown s) ks) list) (sym h.order)
+
+pub past_shows : (nodes : List Node) (places : List ℕ) (list : ℕ) → length places ≤ list → shown (state_of nodes places) list ≡ []
+past_shows nodes places list past =
+    let s : State = state_of nodes places in
+    let long : length (table_of s) ≡ length places = length-table_of s ∙ length-map-range_with_len (own_in nodes places) 0 (length places) in
+    ap (λ o. unwrap_or o []) (slice_get_past (table_of s) list (omega (arith, long, past)))

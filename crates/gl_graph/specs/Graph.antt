@@ -1,0 +1,38 @@
+-- What a graph keeps.
+use Rattle.std.specs.Prelude.{◌≡◌, ◌<◌, ◌≤◌, ℕ, List, length, slice_get, Some, None}
+use Rattle.spec_states.specs.State.{State, turns}
+use Rattle.spec_states.specs.Step.{too_long}
+use Rattle.spec_states.specs.Laws.{IsOrdered}
+use Rattle.gl_graph.specs.declared.kernel.Kernel.{Kernel}
+use Rattle.gl_graph.specs.declared.kernel.Kernel.TheVariants.{Source, Filter, Range, Function}
+use Rattle.gl_graph.specs.declared.node.Node.{Node}
+use Rattle.gl_graph.specs.Nodes.{numbers, IsPlaced, AreSettled}
+use Rattle.gl_graph.specs.Nodes as made
+
+-- how many elements a list may have, the nodes in dependency order, and the place of each list among them
+pub record Kept : Type 0 where
+  pub limit : ℕ
+  pub nodes : List Node
+  pub places : List ℕ
+
+-- the state that it is in
+abbrev pub state_of : Kept → State
+state_of k = made.state_of k.nodes k.places
+
+-- a source may have so many elements
+abbrev pub IsLimited : ℕ → Kernel → Type 0
+IsLimited limit (Source k) = k.limit ≡ limit
+IsLimited limit (Filter input k) = Unit {0}
+IsLimited limit (Range input k) = Unit {0}
+IsLimited limit (Function input k) = Unit {0}
+
+-- Each list has its place, the nodes stand in the dependency order, each for what its input shows, and no list is too long.
+pub record IsGraph (limit : ℕ) (nodes : List Node) (places : List ℕ) : Type 0 where
+  pub few_lists : length places ≤ 256
+  pub few : limit ≤ 2147483647
+  pub placed : (list : ℕ) → list < length places → IsPlaced nodes places list
+  pub ordered : IsOrdered (made.state_of nodes places)
+  pub order : turns (made.state_of nodes places) ≡ numbers nodes
+  pub settled : AreSettled nodes places
+  pub limited : (place : ℕ) (node : Node) → slice_get nodes place ≡ Some node → IsLimited limit node.kernel
+  pub within : too_long limit (made.state_of nodes places) ≡ None
