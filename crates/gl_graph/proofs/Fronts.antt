@@ -1,18 +1,21 @@
 -- What a list shows by the nodes at the front, and by all.
-use Rattle.std.proofs.Common.{◌≡◌, ◌∙◌, ℕ, zero, suc, ◌<◌, ◌≤◌, List, [], ◌∷◌, length, map, take, refl, ap, sym, subst, arith, inl, inr}
+use Rattle.std.proofs.Common.{◌≡◌, ◌∙◌, ℕ, zero, suc, Bool, true, false, ltb, ◌<◌, ◌≤◌, List, [], ◌∷◌, length, map, take, refl, ap, sym, subst, arith, inl, inr}
 use Rattle.std.specs.Prelude.{Option, Some, None, slice_get, slice_index, unwrap_or}
 use Rattle.std.specs.List.{Contains}
 use Rattle.std.proofs.lemmas.Option.{slice_get_past, slice_get_within}
 use Rattle.std.proofs.lemmas.List.FromFn.{length-map-range_with_len}
-use Rattle.spec_order.proofs.Members.{Contains-cons_cases}
+use Rattle.spec_order.proofs.Members.{Contains-cons_cases, Contains-here}
 use Rattle.spec_value.specs.Tree.{Tree}
+use Rattle.spec_lang.specs.Matcher.{accepts}
+use Rattle.spec_lang.specs.Func.{eval}
+use Rattle.std.proofs.lemmas.Bool.{ltb-true, ltb-false}
 use Rattle.spec_states.specs.State.{State, inputs, turns}
 use Rattle.spec_states.specs.Shown.{view, shown, shows_in, settled, nothing_shown, table_of}
 use Rattle.spec_states.proofs.Views.{view_local, length-table_of}
 use Rattle.gl_graph.specs.declared.kernel.Kernel.{Kernel}
 use Rattle.gl_graph.specs.declared.kernel.Kernel.TheVariants.{Source, Filter, Range, Function}
 use Rattle.gl_graph.specs.declared.node.Node.{Node}
-use Rattle.gl_graph.specs.Nodes.{own_of, own_in, state_of, numbers, shown_by, OnInput, IsPlaced, IsInTurn, AreInTurn}
+use Rattle.gl_graph.specs.Nodes.{own_of, own_in, state_of, numbers, shown_by, OnInput, IsPlaced, IsInTurn, AreInTurn, IsSettled, AreSettled, StandsFor}
 use Rattle.gl_graph.specs.Graph.{IsGraph}
 use Rattle.gl_graph.proofs.Showing.{turn_shows, placed_before}
 
@@ -45,6 +48,17 @@ get_node_front nodes zero k node e = absurd cc
 get_node_front [] (suc n) k node e = absurd cc
 get_node_front (m ∷ nodes) (suc n) zero node e = (e, omega arith)
 get_node_front (m ∷ nodes) (suc n) (suc k) node e = let h = get_node_front nodes n k node e in (h.0, (let lower : k < n = h.1 in omega (arith, lower)))
+
+get_node_within : (nodes : List Node) (n k : ℕ) (node : Node) → k < n → slice_get nodes k ≡ Some node → slice_get (take n nodes) k ≡ Some node
+get_node_within nodes zero k node h e = absurd (omega (arith, h))
+get_node_within [] (suc n) k node h e = e
+get_node_within (m ∷ nodes) (suc n) zero node h e = e
+get_node_within (m ∷ nodes) (suc n) (suc k) node h e = get_node_within nodes n k node (omega arith) e
+
+number_at : (nodes : List Node) (k : ℕ) (node : Node) → slice_get nodes k ≡ Some node → slice_get (numbers nodes) k ≡ Some node.list
+number_at [] k node e = absurd cc
+number_at (m ∷ nodes) zero node e = let same : m ≡ node = cc in ap (λ (x : Node). Some x.list) same
+number_at (m ∷ nodes) (suc k) node e = number_at nodes k node e
 
 take_lower : (nodes : List Node) (p n : ℕ) → p ≤ n → take p (take n nodes) ≡ take p nodes
 take_lower nodes zero n h = refl
@@ -101,3 +115,63 @@ past_shows nodes places list past =
     let s : State = state_of nodes places in
     let long : length (table_of s) ≡ length places = length-table_of s ∙ length-map-range_with_len (own_in nodes places) 0 (length places) in
     ap (λ o. unwrap_or o []) (slice_get_past (table_of s) list (omega (arith, long, past)))
+
+-- a settled list is within the limit of deltas
+pub placed_few : (nodes : List Node) (places : List ℕ) (list : ℕ) → AreSettled nodes places → IsPlaced nodes places list → length (shown_by nodes places list) ≤ 2147483647
+placed_few nodes places list settled placed =
+    let h = node_of nodes (slice_index places list) list placed.there in
+    subst (λ l. length (shown_by nodes places l) ≤ 2147483647) h.same (settled (slice_index places list) h.node h.is).few
+
+-- what a kernel stands for goes by what its input shows
+pub stands_same : (kernel : Kernel) (f g : ℕ → List Tree) → ((i : ℕ) → Contains (inputs (own_of kernel)) i → f i ≡ g i) → StandsFor kernel f → StandsFor kernel g
+stands_same (Source k) f g same h = tt
+stands_same (Filter input k) f g same h = h ∙ ap (map (accepts k.matcher)) (same input (Contains-here input [] input refl))
+stands_same (Range input k) f g same h = h ∙ ap length (same input (Contains-here input [] input refl))
+stands_same (Function input k) f g same h = h ∙ ap (map (eval k.func)) (same input (Contains-here input [] input refl))
+
+-- one node more that stands for what its input shows
+pub settled_more : (nodes : List Node) (places : List ℕ) (n : ℕ) (node : Node) → AreInTurn nodes places → AreSettled (take n nodes) places → slice_get nodes n ≡ Some node
+    → StandsFor node.kernel (shown_by (take n nodes) places) → length (view (own_of node.kernel) (shown_by (take n nodes) places)) ≤ 2147483647 → AreSettled (take (suc n) nodes) places
+settled_more nodes places n node turns settled is stands few place other at = by_place (ltb place n) refl
+  where
+    more : AreInTurn (take (suc n) nodes) places
+    more = front_turns nodes places (suc n) turns
+
+    same : (i : ℕ) → IsPlaced (take n nodes) places i → shown_by (take n nodes) places i ≡ shown_by (take (suc n) nodes) places i
+    same i placed = front_shows nodes places n i turns placed ∙ sym (front_shows nodes places (suc n) i turns (placed_lower nodes places n (suc n) i (omega arith) placed))
+
+    found : (slice_get nodes place ≡ Some other) × (place < suc n)
+    found = get_node_front nodes (suc n) place other at
+
+    old : place < n → IsSettled (take (suc n) nodes) places place other
+    old lower =
+        let there : slice_get (take n nodes) place ≡ Some other = get_node_within nodes n place other lower found.0 in
+        let was = settled place other there in
+        let turn = turns place other found.0 in
+        let here : IsPlaced (take n nodes) places other.list =
+        record { within = turn.within; there = subst (λ p. slice_get (numbers (take n nodes)) p ≡ Some other.list) (sym turn.placed) (number_at (take n nodes) place other there) } in
+        record {
+          turn = more place other at;
+          stands = stands_same other.kernel (shown_by (take n nodes) places) (shown_by (take (suc n) nodes) places)
+              (λ i c. same i (placed_lower nodes places place n i (omega (arith, lower)) (each_input (IsPlaced (take place nodes) places) other.kernel i turn.behind c))) was.stands;
+          few = subst (λ xs. length xs ≤ 2147483647) (same other.list here) was.few;
+        }
+
+    new : place ≡ n → IsSettled (take (suc n) nodes) places place other
+    new e =
+        let one : other ≡ node = (let both : Some other ≡ Some node = sym found.0 ∙ (ap (λ p. slice_get nodes p) e ∙ is) in cc) in
+        let turn = turns place other found.0 in
+        let fit : (i : ℕ) → Contains (inputs (own_of other.kernel)) i → shown_by (take n nodes) places i ≡ shown_by (take (suc n) nodes) places i =
+        λ i c. same i (placed_lower nodes places place n i (omega (arith, e)) (each_input (IsPlaced (take place nodes) places) other.kernel i turn.behind c)) in
+        let stands_here : StandsFor other.kernel (shown_by (take n nodes) places) = subst (λ (m : Node). StandsFor m.kernel (shown_by (take n nodes) places)) (sym one) stands in
+        let few_here : length (view (own_of other.kernel) (shown_by (take n nodes) places)) ≤ 2147483647 = subst (λ (m : Node). length (view (own_of m.kernel) (shown_by (take n nodes) places)) ≤ 2147483647) (sym one) few in
+        record {
+          turn = more place other at;
+          stands = stands_same other.kernel (shown_by (take n nodes) places) (shown_by (take (suc n) nodes) places) fit stands_here;
+          few = subst (λ xs. length xs ≤ 2147483647)
+              (view_local (own_of other.kernel) (shown_by (take n nodes) places) (shown_by (take (suc n) nodes) places) fit ∙ sym (turn_shows (take (suc n) nodes) places place other more at)) few_here;
+        }
+
+    by_place : (t : Bool) → ltb place n ≡ t → IsSettled (take (suc n) nodes) places place other
+    by_place true e = old (ltb-true place n e)
+    by_place false e = let high : n ≤ place = ltb-false place n e in let low : place < suc n = found.1 in new (omega (arith, high, low))

@@ -1,3 +1,4 @@
 pub mod Showing
 pub mod Editing
 pub mod Fronts
+pub mod Opening

@@ -3,3 +3,4 @@ pub mod Kept
 pub mod Undos
 pub mod Commands
 pub mod Graph
+pub mod Opening

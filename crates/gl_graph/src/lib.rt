@@ -8,6 +8,7 @@ mod follow;
 mod graph;
 mod kernel;
 mod node;
+mod open;
 mod seen;
 mod undo;
 

@@ -1,0 +1,19 @@
+-- Which lists a graph opens, and why it doesn't.
+use Rattle.std.specs.Prelude.{◌≡◌, ◌<◌, ℕ}
+use Rattle.gl_lines.specs.declared.plan.ListKind.{ListKind}
+use Rattle.gl_lines.specs.declared.plan.ListKind.TheVariants as kinds
+use Rattle.gl_source.specs.declared.fault.OpenFault.{OpenFault}
+use Rattle.gl_source.specs.declared.fault.OpenFault.TheVariants.{TooLong, Memory}
+
+-- the list is of a kind that is built, and this is said of its input, if it has one
+abbrev pub IsBuilt : (ℕ → Type 0) → ListKind → Type 0
+IsBuilt P (kinds.Source rows) = Unit {0}
+IsBuilt P (kinds.Filter input matcher) = P input
+IsBuilt P (kinds.Range input bounds) = P input
+IsBuilt P (kinds.Function input func) = P input
+IsBuilt P other = ⊥
+
+-- the list would have so many elements, which are too many
+abbrev pub IsOver : ℕ → ℕ → OpenFault → Type 0
+IsOver limit len (TooLong n) = (n ≡ len) × (limit < len)
+IsOver limit len Memory = Unit {0}
