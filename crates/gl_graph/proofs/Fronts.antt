@@ -9,9 +9,10 @@ use Rattle.spec_value.specs.Tree.{Tree}
 use Rattle.spec_lang.specs.Matcher.{accepts}
 use Rattle.spec_lang.specs.Func.{eval}
 use Rattle.std.proofs.lemmas.Bool.{ltb-true, ltb-false}
-use Rattle.spec_states.specs.State.{State, inputs, turns}
+use Rattle.spec_states.specs.State.{State, inputs, own_at, turns}
+use Rattle.spec_states.specs.Laws.{IsOrdered}
 use Rattle.spec_states.specs.Shown.{view, shown, shows_in, settled, nothing_shown, table_of}
-use Rattle.spec_states.proofs.Views.{view_local, length-table_of}
+use Rattle.spec_states.proofs.Views.{view_local, views_of_state, length-table_of}
 use Rattle.gl_graph.specs.declared.kernel.Kernel.{Kernel}
 use Rattle.gl_graph.specs.declared.kernel.Kernel.TheVariants.{Source, Filter, Range, Function}
 use Rattle.gl_graph.specs.declared.node.Node.{Node}
@@ -175,3 +176,29 @@ settled_more nodes places n node turns settled is stands few place other at = by
     by_place : (t : Bool) → ltb place n ≡ t → IsSettled (take (suc n) nodes) places place other
     by_place true e = old (ltb-true place n e)
     by_place false e = let high : n ≤ place = ltb-false place n e in let low : place < suc n = found.1 in new (omega (arith, high, low))
+
+-- where the nodes keep what the lists of an ordered state keep, they show what these show
+pub agrees : (nodes : List Node) (places : List ℕ) (s : State) → AreInTurn nodes places → IsOrdered s → length s ≡ length places
+    → ((p : ℕ) (n : Node) → slice_get nodes p ≡ Some n → own_of n.kernel ≡ own_at s n.list)
+    → (list : ℕ) → IsPlaced nodes places list → shown_by nodes places list ≡ shown s list
+agrees nodes places s turns ordered long own list placed = by_place (suc (slice_index places list)) list (omega arith) placed
+  where
+    by_place : (m i : ℕ) → slice_index places i < m → IsPlaced nodes places i → shown_by nodes places i ≡ shown s i
+    by_place zero i below at = absurd (omega (arith, below))
+    by_place (suc m) i below at =
+        let p : ℕ = slice_index places i in
+        let h = node_of nodes p i at.there in
+        let node = h.node in
+        let turn = turns p node h.is in
+        let inner : (j : ℕ) → Contains (inputs (own_of node.kernel)) j → shown_by nodes places j ≡ shown s j =
+        λ j c.
+        let there : IsPlaced (take p nodes) places j = each_input (IsPlaced (take p nodes) places) node.kernel j turn.behind c in
+        let before = placed_before nodes places p j there in
+        let below_p : slice_index places j < p = before.1 in
+        by_place m j (omega (arith, below, below_p)) before.0 in
+        let within : node.list < length s = (let low : node.list < length places = turn.within in omega (arith, low, long)) in
+        let here : shown_by nodes places node.list ≡ shown s node.list =
+        turn_shows nodes places p node turns h.is
+        ∙ (view_local (own_of node.kernel) (shown_by nodes places) (shown s) inner
+        ∙ (ap (λ o. view o (shown s)) (own p node h.is) ∙ sym (views_of_state s ordered node.list within))) in
+        subst (λ l. shown_by nodes places l ≡ shown s l) h.same here

@@ -2,3 +2,5 @@ pub mod Showing
 pub mod Editing
 pub mod Fronts
 pub mod Opening
+pub mod Places
+pub mod Depending

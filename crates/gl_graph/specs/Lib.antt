@@ -4,3 +4,4 @@ pub mod Undos
 pub mod Commands
 pub mod Graph
 pub mod Opening
+pub mod Places

@@ -1,5 +1,6 @@
 -- Which lists a graph opens, and why it doesn't.
-use Rattle.std.specs.Prelude.{◌≡◌, ◌<◌, ℕ}
+use Rattle.std.specs.Prelude.{◌≡◌, ◌<◌, ℕ, List, slice_get, Some}
+use Rattle.gl_lines.specs.declared.plan.ListDecl.{ListDecl}
 use Rattle.gl_lines.specs.declared.plan.ListKind.{ListKind}
 use Rattle.gl_lines.specs.declared.plan.ListKind.TheVariants as kinds
 use Rattle.gl_source.specs.declared.fault.OpenFault.{OpenFault}
@@ -17,3 +18,11 @@ IsBuilt P other = ⊥
 abbrev pub IsOver : ℕ → ℕ → OpenFault → Type 0
 IsOver limit len (TooLong n) = (n ≡ len) × (limit < len)
 IsOver limit len Memory = Unit {0}
+
+-- the list is of a kind that is built
+abbrev pub IsKindBuilt : ListKind → Type 0
+IsKindBuilt kind = IsBuilt (λ input. Unit {0}) kind
+
+-- all lists are
+abbrev pub AreKindsBuilt : List ListDecl → Type 0
+AreKindsBuilt lists = (k : ℕ) (d : ListDecl) → slice_get lists k ≡ Some d → IsKindBuilt d.kind

@@ -4,11 +4,13 @@
 
 mod change;
 mod edit;
+mod edges;
 mod follow;
 mod graph;
 mod kernel;
 mod node;
 mod open;
+mod place;
 mod seen;
 mod undo;
 
