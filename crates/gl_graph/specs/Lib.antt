@@ -5,3 +5,4 @@ pub mod Commands
 pub mod Graph
 pub mod Opening
 pub mod Places
+pub mod Build

@@ -2,9 +2,11 @@
 //! an element is found by way of the lists that it comes from.
 #![tactic(auto)]
 
+mod build;
 mod change;
 mod edit;
 mod edges;
+mod fault;
 mod follow;
 mod graph;
 mod kernel;
@@ -14,6 +16,7 @@ mod place;
 mod seen;
 mod undo;
 
+pub use fault::BuildFault;
 pub use gl_value::Memory;
 pub use graph::Graph;
 pub use kernel::Kernel;

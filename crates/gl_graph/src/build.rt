@@ -1,0 +1,50 @@
+//! How the lists of a plan open.
+
+ghost use Rattle.std.specs.Prelude.{◌≡◌, ◌≤◌, ◌++◌, ◌∷◌, [], length, IfErr, OnOk};
+ghost use Rattle.spec_states.specs.State.{opening_of};
+ghost use Rattle.spec_states.specs.Shown.{view};
+ghost use Rattle.gl_graph.specs.Nodes.{shown_by, AreSettled, IsPlaced};
+ghost use Rattle.gl_graph.specs.Opening.{IsBuilt};
+ghost use Rattle.gl_graph.specs.Build.{IsOneMore, IsFault};
+
+use crate::fault::BuildFault;
+use crate::node::Node;
+use crate::open::opened;
+use gl_lines::ListKind;
+use gl_source::OpenFault;
+use gl_value::Steps;
+use std::alloc::{AllocError, Global};
+use std::sync::ledger::Ledger;
+
+// One list more behind those that are open.
+fn open_next<L: Ledger>(
+    alloc: Global,
+    nodes: &mut Vec<Node>,
+    places: &[u32],
+    list: u32,
+    kind: &ListKind,
+    limit: u64,
+    steps: &mut Steps<L>,
+) -> Result<(), BuildFault>
+    requires settled { AreSettled nodes.old.items places.now }
+    requires built { IsBuilt (IsPlaced nodes.old.items places.now) kind.now }
+    requires few { limit ≤ 2147483647 }
+    ensures more { OnOk result (IsOneMore limit places.now list (opening_of kind.now) nodes.old.items nodes.new.items) }
+    ensures fault { IfErr result (IsFault limit list (length (view (opening_of kind.now) (shown_by nodes.old.items places.now)))) }
+{
+    match opened(alloc, kind, nodes.as_slice(), places, limit, steps) {
+        Ok(kernel) => {
+            push(nodes, Node { list, kernel })?;
+            Ok(())
+        }
+        Err(OpenFault::TooLong { len }) => Err(BuildFault::TooLong { list, len }),
+        Err(OpenFault::Memory) => Err(BuildFault::Memory),
+    }
+}
+
+fn push(nodes: &mut Vec<Node>, node: Node) -> Result<(), AllocError>
+    ensures { OnOk result (nodes.new.items ≡ nodes.old.items ++ node ∷ []) }
+{
+    nodes.push(node)?;
+    Ok(())
+}
