@@ -4,3 +4,4 @@ pub mod Fronts
 pub mod Opening
 pub mod Places
 pub mod Depending
+pub mod Building

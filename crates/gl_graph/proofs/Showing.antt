@@ -89,13 +89,14 @@ follows nodes places turns = from [] nodes refl
         let front : take p nodes ≡ before = ap (take p) e ∙ take-append_seam before (n ∷ ns) in
         let own : own_at (state_of nodes places) n.list ≡ own_of n.kernel = own_of_turn nodes places p n is turn in
         let behind : OnInput (IsPlaced before places) n.kernel = subst (λ xs. OnInput (IsPlaced xs places) n.kernel) front turn.behind in
-        let more : numbers (before ++ n ∷ []) ≡ numbers before ++ n.list ∷ [] = map-append (λ (m : Node). m.list) before (n ∷ []) in
-        (λ i c. inputs_before before places n.kernel i behind (subst (λ o. Contains (inputs o) i) own c),
-         (λ c. let h = has_node before n.list c in
-             let old : slice_get nodes h.place ≡ Some h.node = ap (λ xs. slice_get xs h.place) e ∙ get_before before (n ∷ ns) h.place h.within ∙ h.is in
-             let at : slice_index places n.list ≡ h.place = ap (λ l. slice_index places l) (sym h.same) ∙ (turns h.place h.node old).placed in
-             absurd (omega (arith, h.within, sym turn.placed ∙ at))),
-         subst (λ xs. Follow needs xs (numbers ns)) more (from (before ++ n ∷ []) ns (e ∙ sym (append_assoc before (n ∷ []) ns))))
+        let more : numbers (before ++ n ∷ []) ≡ numbers before ++ n.list ∷ [] = map-append (λ (m : Node). m.list) before (n ∷ []) in (
+          λ i c. inputs_before before places n.kernel i behind (subst (λ o. Contains (inputs o) i) own c),
+          (λ c. let h = has_node before n.list c in
+              let old : slice_get nodes h.place ≡ Some h.node = ap (λ xs. slice_get xs h.place) e ∙ get_before before (n ∷ ns) h.place h.within ∙ h.is in
+              let at : slice_index places n.list ≡ h.place = ap (λ l. slice_index places l) (sym h.same) ∙ (turns h.place h.node old).placed in
+              absurd (omega (arith, h.within, sym turn.placed ∙ at))),
+          subst (λ xs. Follow needs xs (numbers ns)) more (from (before ++ n ∷ []) ns (e ∙ sym (append_assoc before (n ∷ []) ns))),
+        )
 
 -- each node shows its view
 pub turn_shows : (nodes : List Node) (places : List ℕ) (place : ℕ) (node : Node) → AreInTurn nodes places → slice_get nodes place ≡ Some node

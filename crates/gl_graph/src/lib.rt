@@ -4,8 +4,8 @@
 
 mod build;
 mod change;
-mod edit;
 mod edges;
+mod edit;
 mod fault;
 mod follow;
 mod graph;

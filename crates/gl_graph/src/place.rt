@@ -7,11 +7,7 @@ use std::alloc::{AllocError, Global};
 
 /// The place of each number in an order of all numbers below `n`.
 #[tactic(auto, using(crate::proofs::Places::places_more))]
-pub(crate) fn places_in(
-    alloc: Global,
-    n: u32,
-    order: &[u32],
-) -> Result<Vec<u32>, AllocError>
+pub(crate) fn places_in(alloc: Global, n: u32, order: &[u32]) -> Result<Vec<u32>, AllocError>
     requires whole { length order.now ≡ n }
     requires below { AreBelow n order.now }
     requires distinct { AreDistinct order.now }
