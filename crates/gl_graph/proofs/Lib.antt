@@ -5,3 +5,5 @@ pub mod Opening
 pub mod Places
 pub mod Depending
 pub mod Building
+pub mod Turning
+pub mod Starting

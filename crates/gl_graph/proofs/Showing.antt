@@ -154,7 +154,7 @@ on_input P (Filter i k) input e h = (let same : i ≡ input = cc in subst P same
 on_input P (Range i k) input e h = (let same : i ≡ input = cc in subst P same h)
 on_input P (Function i k) input e h = (let same : i ≡ input = cc in subst P same h)
 
-get_front : (xs : List ℕ) (n k x : ℕ) → slice_get (take n xs) k ≡ Some x → slice_get xs k ≡ Some x
+pub get_front : (xs : List ℕ) (n k x : ℕ) → slice_get (take n xs) k ≡ Some x → slice_get xs k ≡ Some x
 get_front xs zero k x e = absurd cc
 get_front [] (suc n) k x e = absurd cc
 get_front (y ∷ ys) (suc n) zero x e = e

@@ -1,12 +1,18 @@
 -- How the lists of a plan open one after another.
-use Rattle.std.specs.Prelude.{◌≡◌, ◌<◌, ◌≤◌, ◌++◌, ◌∷◌, [], ℕ, List, length, take, slice_get, Some}
-use Rattle.spec_states.specs.State.{Own, State, own_at}
+use Rattle.std.specs.Prelude.{◌≡◌, ◌<◌, ◌≤◌, ◌++◌, ◌∷◌, [], ℕ, List, length, map, take, slice_get, Some, None}
+use Rattle.gl_lines.specs.declared.plan.ListDecl.{ListDecl}
+use Rattle.gl_lines.specs.declared.reply.Reply.TheVariants as reply
+use Rattle.spec_states.specs.State.{Own, State, own_at, opening_of, turns}
+use Rattle.spec_states.specs.Step.{too_long}
+use Rattle.spec_states.specs.Laws.{IsOrdered}
 use Rattle.spec_states.specs.Shown.{view}
 use Rattle.gl_graph.specs.declared.node.Node.{Node}
 use Rattle.gl_graph.specs.declared.fault.BuildFault.{BuildFault}
 use Rattle.gl_graph.specs.declared.fault.BuildFault.TheVariants.{TooLong, Memory}
-use Rattle.gl_graph.specs.Nodes.{own_of, numbers, shown_by, StandsFor, AreSettled}
-use Rattle.gl_graph.specs.Graph.{IsLimited}
+use Rattle.gl_graph.specs.Nodes.{own_of, numbers, shown_by, state_of, StandsFor, AreSettled}
+use Rattle.gl_graph.specs.Opening.{AreKindsBuilt}
+use Rattle.gl_graph.specs.Places.{ArePlaces}
+use Rattle.gl_graph.specs.Graph.{IsLimited, IsGraph}
 
 -- one node more, of a list that keeps this and isn't too long
 pub record IsOneMore (limit : ℕ) (places : List ℕ) (list : ℕ) (own : Own) (before after : List Node) : Type 0 where
@@ -30,3 +36,28 @@ pub record AreOpened (limit : ℕ) (s : State) (places order : List ℕ) (k : �
   pub own : (p : ℕ) (n : Node) → slice_get nodes p ≡ Some n → own_of n.kernel ≡ own_at s n.list
   pub limited : (p : ℕ) (n : Node) → slice_get nodes p ≡ Some n → IsLimited limit n.kernel
   pub within : (p : ℕ) (n : Node) → slice_get nodes p ≡ Some n → length (shown_by nodes places n.list) ≤ limit
+
+-- what the lists of a plan open with
+abbrev pub opened_lists : List ListDecl → State
+opened_lists lists = map (λ (d : ListDecl). opening_of d.kind) lists
+
+-- the lists may be opened in this order, which is that of their dependencies, with these places
+pub record AreReady (limit : ℕ) (lists : List ListDecl) (places order : List ℕ) : Type 0 where
+  pub few_lists : length lists ≤ 256
+  pub few : limit ≤ 2147483647
+  pub built : AreKindsBuilt lists
+  pub ordered : IsOrdered (opened_lists lists)
+  pub order_is : order ≡ turns (opened_lists lists)
+  pub long : length places ≡ length lists
+  pub places_are : ArePlaces places order (length lists)
+
+-- why lists that open so aren't opened
+abbrev pub IsReason : ℕ → State → BuildFault → Type 0
+IsReason limit s (TooLong list len) = too_long limit s ≡ Some (reply.TooLong list len)
+IsReason limit s Memory = Unit {0}
+
+-- the nodes are a graph of what these lists open with, none of which is too long
+pub record AreOpen (limit : ℕ) (lists : List ListDecl) (nodes : List Node) (places : List ℕ) : Type 0 where
+  pub state_is : state_of nodes places ≡ opened_lists lists
+  pub few : too_long limit (opened_lists lists) ≡ None
+  pub graph : IsGraph limit nodes places

@@ -1,0 +1,279 @@
+-- The lists of a plan open in their order, or one is too long.
+use Rattle.std.proofs.Common.{◌≡◌, ◌∙◌, ℕ, zero, suc, ◌+◌, ◌<◌, ◌≤◌, Bool, true, false, List, [], ◌∷◌, ◌++◌, length, map, take, refl, ap, sym, subst, arith, nat_le, if◌then◌else◌}
+use Rattle.std.specs.Prelude.{Option, Some, None, slice_get, slice_index, unwrap_or}
+use Rattle.std.specs.List.{Contains}
+use Rattle.std.proofs.lemmas.Bool.{le-leb, lt-leb}
+use Rattle.std.proofs.lemmas.Option.{slice_get_within}
+use Rattle.std.proofs.lemmas.List.{length-map}
+use Rattle.std.proofs.lemmas.List.FromFn.{length-map-range_with_len}
+use Rattle.spec_order.specs.Edges.{AreWithin}
+use Rattle.spec_order.specs.Cycle.{HasCycle}
+use Rattle.spec_order.specs.Order.{IsOrder}
+use Rattle.spec_order.proofs.Exists.{turns-from_IsOrder}
+use Rattle.spec_order.proofs.Acyclic.{Contains-order}
+use Rattle.spec_order.proofs.Members.{Contains-here, Contains-later}
+use Rattle.spec_value.specs.Tree.{Tree}
+use Rattle.gl_lines.specs.declared.plan.ListDecl.{ListDecl}
+use Rattle.gl_lines.specs.declared.plan.ListKind.{ListKind}
+use Rattle.gl_lines.specs.declared.plan.ListKind.TheVariants as kinds
+use Rattle.gl_lines.specs.declared.reply.Reply.{Reply}
+use Rattle.gl_lines.specs.declared.reply.Reply.TheVariants as reply
+use Rattle.spec_plans.specs.Plan.{Plan, inputs_of, edges_from}
+use Rattle.gl_whole_plan.specs.Whole.{IsWhole}
+use Rattle.spec_states.specs.State.{Own, State, source, inputs, opening_of, own_at, edges_of, turns}
+use Rattle.spec_states.specs.Shown.{Table, view, shown, shows_in, table_of}
+use Rattle.spec_states.specs.Step.{first_longer, too_long}
+use Rattle.spec_states.specs.Laws.{IsOrdered}
+use Rattle.spec_states.proofs.Turns.{ordered, turns_follow}
+use Rattle.spec_states.proofs.Views.{view_local, views_of_state, opening_edges}
+use Rattle.gl_graph.specs.declared.kernel.Kernel.{Kernel}
+use Rattle.gl_graph.specs.declared.kernel.Kernel.TheVariants.{Source, Filter, Range, Function}
+use Rattle.gl_graph.specs.declared.node.Node.{Node}
+use Rattle.gl_graph.specs.declared.fault.BuildFault.{BuildFault}
+use Rattle.gl_graph.specs.declared.fault.BuildFault.TheVariants.{TooLong, Memory}
+use Rattle.gl_graph.specs.Nodes.{own_of, own_of_node, own_in, state_of, numbers, shown_by, OnInput, IsPlaced}
+use Rattle.gl_graph.specs.Graph.{IsGraph}
+use Rattle.gl_graph.specs.Opening.{IsBuilt, IsKindBuilt, AreKindsBuilt}
+use Rattle.gl_graph.specs.Places.{ArePlaces}
+use Rattle.gl_graph.specs.Build.{IsOneMore, IsFault, AreOpened, AreReady, AreOpen, IsReason, opened_lists}
+use Rattle.gl_graph.proofs.Showing.{turns_of_settled, own_at_state, member_at}
+use Rattle.gl_graph.proofs.Fronts.{node_of, agrees}
+use Rattle.gl_graph.proofs.Building.{opened_more}
+use Rattle.gl_graph.proofs.Turning.{order_below, placed_in, follow_at, take_next, take_all, take_long, index_of_get}
+
+built_of : (P : ℕ → Type 0) (kind : ListKind) → IsKindBuilt kind → ((i : ℕ) → Contains (inputs (opening_of kind)) i → P i) → IsBuilt P kind
+built_of P (kinds.Source rows) h f = tt
+built_of P (kinds.Filter input matcher) h f = f input (Contains-here input [] input refl)
+built_of P (kinds.Range input bounds) h f = f input (Contains-here input [] input refl)
+built_of P (kinds.Function input func) h f = f input (Contains-here input [] input refl)
+built_of P (kinds.Sorted input order) h f = absurd h
+built_of P (kinds.Unique input order) h f = absurd h
+built_of P (kinds.Grouping input order) h f = absurd h
+built_of P (kinds.Collection input kids) h f = absurd h
+built_of P (kinds.Composite members may) h f = absurd h
+built_of P (kinds.Transaction input) h f = absurd h
+built_of P (kinds.Freezable input) h f = absurd h
+built_of P (kinds.Proxy input) h f = absurd h
+
+on_inputs : (P : ℕ → Type 0) (kernel : Kernel) → ((i : ℕ) → Contains (inputs (own_of kernel)) i → P i) → OnInput P kernel
+on_inputs P (Source k) f = tt
+on_inputs P (Filter input k) f = f input (Contains-here input [] input refl)
+on_inputs P (Range input k) f = f input (Contains-here input [] input refl)
+on_inputs P (Function input k) f = f input (Contains-here input [] input refl)
+
+-- what a list of these opens with
+own_opened : (lists : List ListDecl) (list : ℕ) (d : ListDecl) → slice_get lists list ≡ Some d → own_at (opened_lists lists) list ≡ opening_of d.kind
+own_opened [] list d e = absurd cc
+own_opened (c ∷ lists) zero d e = let same : c ≡ d = cc in ap (λ (x : ListDecl). opening_of x.kind) same
+own_opened (c ∷ lists) (suc list) d e = own_opened lists list d e
+
+long_opened : (lists : List ListDecl) → length (opened_lists lists) ≡ length lists
+long_opened [] = refl
+long_opened (d ∷ lists) = ap suc (long_opened lists)
+
+-- what depends on what in it
+pub opened_edges : (lists : List ListDecl) → edges_of (opened_lists lists) ≡ edges_from 0 (map (λ (d : ListDecl). inputs_of d.kind) lists)
+opened_edges lists = opening_edges (record { limit = 0; lists = lists; listeners = []; writers = [] })
+
+pub within_edges : (lists : List ListDecl) (edges : List (ℕ × ℕ)) → IsOrdered (opened_lists lists) → edges ≡ edges_from 0 (map (λ (d : ListDecl). inputs_of d.kind) lists)
+    → AreWithin (length lists) edges
+within_edges lists edges h is =
+    let s : State = opened_lists lists in
+    subst (λ n. AreWithin n edges) (long_opened lists) (subst (AreWithin (length s)) (opened_edges lists ∙ sym is) h.within)
+
+pub no_cycle : (lists : List ListDecl) (edges : List (ℕ × ℕ)) → IsOrdered (opened_lists lists) → edges ≡ edges_from 0 (map (λ (d : ListDecl). inputs_of d.kind) lists)
+    → ¬ HasCycle edges
+no_cycle lists edges h is = subst (λ es. ¬ HasCycle es) (opened_edges lists ∙ sym is) h.acyclic
+
+-- the order of a whole plan's lists
+pub whole_ordered : (p : Plan) → IsWhole p → IsOrdered (opened_lists p.lists)
+whole_ordered p h = record {
+  within = subst (λ n. AreWithin n (edges_of (opened_lists p.lists))) (sym (long_opened p.lists)) (subst (AreWithin (length p.lists)) (sym (opened_edges p.lists)) h.lists_within);
+  acyclic = subst (λ es. ¬ HasCycle es) (sym (opened_edges p.lists)) h.acyclic.lists;
+}
+
+-- lists in their dependency order, with their places there
+pub ready_of : (limit : ℕ) (lists : List ListDecl) (places order : List ℕ) → limit ≤ 2147483647 → length lists ≤ 256 → AreKindsBuilt lists → IsOrdered (opened_lists lists)
+    → IsOrder (length lists) (edges_of (opened_lists lists)) order → length places ≡ length lists → ArePlaces places order (length lists) → AreReady limit lists places order
+ready_of limit lists places order few few_lists built ordered_is is long are = record {
+  few_lists = few_lists;
+  few = few;
+  built = built;
+  ordered = ordered_is;
+  order_is =
+      let s : State = opened_lists lists in
+      turns-from_IsOrder (length s) (edges_of s) order ordered_is.within (subst (λ n. IsOrder n (edges_of s) order) (sym (long_opened lists)) is);
+  long = long;
+  places_are = are;
+}
+
+order_of : (limit : ℕ) (lists : List ListDecl) (places order : List ℕ) → AreReady limit lists places order → IsOrder (length lists) (edges_of (opened_lists lists)) order
+order_of limit lists places order ready =
+    let s : State = opened_lists lists in
+    subst (λ n. IsOrder n (edges_of s) order) (long_opened lists) (subst (IsOrder (length s) (edges_of s)) (sym ready.order_is) (ordered s ready.ordered))
+
+-- the lists that are open so far have their places
+front_placed : (limit : ℕ) (lists : List ListDecl) (places order : List ℕ) (nodes : List Node) (k list : ℕ) → AreReady limit lists places order
+    → numbers nodes ≡ take k order → Contains (take k order) list → IsPlaced nodes places list
+front_placed limit lists places order nodes k list ready numbers_are c =
+    let is = order_of limit lists places order ready in
+    placed_in places order nodes (length lists) k list ready.places_are is.whole ready.long (order_below (length lists) (edges_of (opened_lists lists)) order is.front) numbers_are c
+
+-- what the next list follows is open
+next_inputs : (limit : ℕ) (lists : List ListDecl) (places order : List ℕ) (nodes : List Node) (k list : ℕ) (d : ListDecl) → AreReady limit lists places order
+    → numbers nodes ≡ take k order → slice_get order k ≡ Some list → slice_get lists list ≡ Some d → (i : ℕ) → Contains (inputs (opening_of d.kind)) i → IsPlaced nodes places i
+next_inputs limit lists places order nodes k list d ready numbers_are here there i c =
+    let s : State = opened_lists lists in
+    let turn : slice_get (turns s) k ≡ Some list = subst (λ xs. slice_get xs k ≡ Some list) ready.order_is here in
+    let need : Contains (inputs (own_at s list)) i = subst (λ o. Contains (inputs o) i) (sym (own_opened lists list d there)) c in
+    let before : Contains (take k (turns s)) i = follow_at (λ l. inputs (own_at s l)) [] (turns s) k list (turns_follow s ready.ordered) turn i need in
+    front_placed limit lists places order nodes k i ready numbers_are (subst (λ xs. Contains (take k xs) i) (sym ready.order_is) before)
+
+pub next_within : (limit : ℕ) (lists : List ListDecl) (places order : List ℕ) (k list : ℕ) → AreReady limit lists places order → slice_get order k ≡ Some list → list < length lists
+next_within limit lists places order k list ready here =
+    let is = order_of limit lists places order ready in
+    let index : slice_index order k ≡ list = index_of_get order k list here in
+    let below : slice_index order k < length lists = order_below (length lists) (edges_of (opened_lists lists)) order is.front k (slice_get_within order k list here) in
+    omega (arith, below, index)
+
+pub next_built : (limit : ℕ) (lists : List ListDecl) (places order : List ℕ) (nodes : List Node) (k list : ℕ) (d : ListDecl) → AreReady limit lists places order
+    → AreOpened limit (opened_lists lists) places order k nodes → slice_get order k ≡ Some list → slice_get lists list ≡ Some d → IsBuilt (IsPlaced nodes places) d.kind
+next_built limit lists places order nodes k list d ready opened here there =
+    built_of (IsPlaced nodes places) d.kind (ready.built list d there) (next_inputs limit lists places order nodes k list d ready opened.order_is here there)
+
+pub next_opened : (limit : ℕ) (lists : List ListDecl) (places order : List ℕ) (nodes after : List Node) (k list : ℕ) (d : ListDecl) → AreReady limit lists places order
+    → AreOpened limit (opened_lists lists) places order k nodes → slice_get order k ≡ Some list → slice_get lists list ≡ Some d
+    → IsOneMore limit places list (opening_of d.kind) nodes after → AreOpened limit (opened_lists lists) places order (suc k) after
+next_opened limit lists places order nodes after k list d ready opened here there more =
+    let s : State = opened_lists lists in
+    let is = order_of limit lists places order ready in
+    let within : k < length order = slice_get_within order k list here in
+    let number_len : length nodes ≡ length (numbers nodes) = sym (length-map nodes (λ (n : Node). n.list)) in
+    let long : length nodes ≡ k = number_len ∙ (ap length opened.order_is ∙ take_long order k (omega (arith, within))) in
+    let index : slice_index order k ≡ list = index_of_get order k list here in
+    let below : slice_index order k < length lists = order_below (length lists) (edges_of s) order is.front k within in
+    let placed : slice_index places list ≡ k = subst (λ l. slice_index places l ≡ k) index (ready.places_are k (omega (arith, within, is.whole))) in
+    let result = opened_more limit s places order nodes after list (opening_of d.kind) ready.few
+    (subst (λ m. AreOpened limit s places order m nodes) (sym long) opened) more
+    (omega (arith, below, index, ready.long)) (placed ∙ sym long) (sym (own_opened lists list d there))
+    (λ node own. on_inputs (IsPlaced nodes places) node.kernel (λ i c. next_inputs limit lists places order nodes k list d ready opened.order_is here there i (subst (λ o. Contains (inputs o) i) own c)))
+    (subst (λ m. take (suc m) order ≡ take m order ++ list ∷ []) (sym long) (take_next order k list here)) in
+    subst (λ m. AreOpened limit s places order (suc m) after) long result
+
+le_yes : (x y : ℕ) → x ≤ y → nat_le x y ≡ true
+le_yes x y h = le-leb x y h
+
+le_no : (x y : ℕ) → y < x → nat_le x y ≡ false
+le_no x y h = lt-leb x y h
+
+-- the first list that is too long
+abbrev choose : Table → ℕ → List ℕ → ℕ → Bool → Option Reply
+choose t limit ys y b = if b then first_longer limit t ys else Some (reply.TooLong y (length (shows_in t y)))
+
+longer_at : (limit : ℕ) (t : Table) (xs : List ℕ) (k x : ℕ) → slice_get xs k ≡ Some x → ((y : ℕ) → Contains (take k xs) y → length (shows_in t y) ≤ limit)
+    → limit < length (shows_in t x) → first_longer limit t xs ≡ Some (reply.TooLong x (length (shows_in t x)))
+longer_at limit t [] k x e few more = absurd cc
+longer_at limit t (y ∷ ys) zero x e few more =
+    let same : y ≡ x = cc in
+    subst (λ z. first_longer limit t (y ∷ ys) ≡ Some (reply.TooLong z (length (shows_in t z)))) same
+    (ap (choose t limit ys y) (le_no (length (shows_in t y)) limit (subst (λ z. limit < length (shows_in t z)) (sym same) more)))
+longer_at limit t (y ∷ ys) (suc k) x e few more =
+    ap (choose t limit ys y) (le_yes (length (shows_in t y)) limit (few y (Contains-here y (take k ys) y refl)))
+    ∙ longer_at limit t ys k x e (λ z c. few z (Contains-later y (take k ys) z c)) more
+
+none_longer : (limit : ℕ) (t : Table) (xs : List ℕ) → ((y : ℕ) → Contains xs y → length (shows_in t y) ≤ limit) → first_longer limit t xs ≡ None
+none_longer limit t [] few = refl
+none_longer limit t (y ∷ ys) few =
+    ap (choose t limit ys y) (le_yes (length (shows_in t y)) limit (few y (Contains-here y ys y refl)))
+    ∙ none_longer limit t ys (λ z c. few z (Contains-later y ys z c))
+
+-- what is open shows what it shows in the end
+opened_shows : (limit : ℕ) (lists : List ListDecl) (places order : List ℕ) (nodes : List Node) (k list : ℕ) → AreReady limit lists places order
+    → AreOpened limit (opened_lists lists) places order k nodes → IsPlaced nodes places list → shown_by nodes places list ≡ shown (opened_lists lists) list
+opened_shows limit lists places order nodes k list ready opened placed =
+    agrees nodes places (opened_lists lists) (turns_of_settled nodes places opened.settled) ready.ordered (long_opened lists ∙ sym ready.long) opened.own list placed
+
+opened_few : (limit : ℕ) (lists : List ListDecl) (places order : List ℕ) (nodes : List Node) (k : ℕ) → AreReady limit lists places order
+    → AreOpened limit (opened_lists lists) places order k nodes → (list : ℕ) → Contains (take k order) list → length (shown (opened_lists lists) list) ≤ limit
+opened_few limit lists places order nodes k ready opened list c =
+    let placed = front_placed limit lists places order nodes k list ready opened.order_is c in
+    let h = node_of nodes (slice_index places list) list placed.there in
+    let few : length (shown_by nodes places list) ≤ limit = subst (λ l. length (shown_by nodes places l) ≤ limit) h.same (opened.within (slice_index places list) h.node h.is) in
+    subst (λ xs. length xs ≤ limit) (opened_shows limit lists places order nodes k list ready opened placed) few
+
+pub next_reason : (limit : ℕ) (lists : List ListDecl) (places order : List ℕ) (nodes : List Node) (k list : ℕ) (d : ListDecl) (fault : BuildFault) → AreReady limit lists places order
+    → AreOpened limit (opened_lists lists) places order k nodes → slice_get order k ≡ Some list → slice_get lists list ≡ Some d
+    → IsFault limit list (length (view (opening_of d.kind) (shown_by nodes places))) fault → IsReason limit (opened_lists lists) fault
+next_reason limit lists places order nodes k list d Memory ready opened here there fault = tt
+next_reason limit lists places order nodes k list d (TooLong number n) ready opened here there fault =
+    let s : State = opened_lists lists in
+    let is = order_of limit lists places order ready in
+    let within : k < length order = slice_get_within order k list here in
+    let index : slice_index order k ≡ list = index_of_get order k list here in
+    let below : slice_index order k < length lists = order_below (length lists) (edges_of s) order is.front k within in
+    let own = own_opened lists list d there in
+    let same : view (opening_of d.kind) (shown_by nodes places) ≡ shown s list =
+    view_local (opening_of d.kind) (shown_by nodes places) (shown s) (λ i c. opened_shows limit lists places order nodes k i ready opened (next_inputs limit lists places order nodes k list d ready opened.order_is here there i c))
+    ∙ (ap (λ o. view o (shown s)) (sym own) ∙ sym (views_of_state s ready.ordered list (omega (arith, below, index, long_opened lists)))) in
+    let more : limit < length (shown s list) = subst (λ xs. limit < length xs) same fault.2 in
+    let long : n ≡ length (shown s list) = fault.1 ∙ ap length same in
+    ap (first_longer limit (table_of s)) (sym ready.order_is)
+    ∙ (longer_at limit (table_of s) order k list here (opened_few limit lists places order nodes k ready opened) more
+    ∙ (ap (λ m. Some (reply.TooLong list m)) (sym long) ∙ ap (λ l. Some (reply.TooLong l n)) (sym fault.0)))
+
+same_state : (s t : State) → length s ≡ length t → ((k : ℕ) → k < length t → own_at s k ≡ own_at t k) → s ≡ t
+same_state [] [] e f = refl
+same_state [] (u ∷ t) e f = absurd (omega (arith, e))
+same_state (o ∷ s) [] e f = absurd (omega (arith, e))
+same_state (o ∷ s) (u ∷ t) e f =
+    let head : o ≡ u = f 0 (omega arith) in
+    let tail : s ≡ t = same_state s t (omega (arith, e)) (λ k h. f (suc k) (omega (arith, h))) in
+    ap (λ x. x ∷ s) head ∙ ap (λ xs. u ∷ xs) tail
+
+-- once all are open they are a graph
+pub all_open : (limit : ℕ) (lists : List ListDecl) (places order : List ℕ) (nodes : List Node) → AreReady limit lists places order
+    → AreOpened limit (opened_lists lists) places order (length order) nodes → AreOpen limit lists nodes places
+all_open limit lists places order nodes ready opened = record {
+  state_is = state_is;
+  few = few;
+  graph = record {
+    few_lists = omega (arith, ready.long, ready.few_lists);
+    few = ready.few;
+    placed = λ list within. placed list (omega (arith, within, ready.long));
+    ordered = subst IsOrdered (sym state_is) ready.ordered;
+    order = ap turns state_is ∙ (sym ready.order_is ∙ sym numbers_are);
+    settled = opened.settled;
+    limited = opened.limited;
+    within = ap (too_long limit) state_is ∙ few;
+  };
+}
+  where
+    s : State
+    s = opened_lists lists
+
+    numbers_are : numbers nodes ≡ order
+    numbers_are = opened.order_is ∙ take_all order
+
+    member : (list : ℕ) → list < length lists → Contains (take (length order) order) list
+    member list within =
+        subst (λ xs. Contains xs list) (sym (take_all order)) (Contains-order (length lists) (edges_of s) order (order_of limit lists places order ready) list within)
+
+    placed : (list : ℕ) → list < length lists → IsPlaced nodes places list
+    placed list within = front_placed limit lists places order nodes (length order) list ready opened.order_is (member list within)
+
+    long : length (state_of nodes places) ≡ length s
+    long = length-map-range_with_len (own_in nodes places) 0 (length places) ∙ (ready.long ∙ sym (long_opened lists))
+
+    same : (list : ℕ) → list < length s → own_at (state_of nodes places) list ≡ own_at s list
+    same list within =
+        let low : list < length lists = omega (arith, within, long_opened lists) in
+        let h = node_of nodes (slice_index places list) list (placed list low).there in
+        own_at_state nodes places list (omega (arith, low, ready.long))
+        ∙ (ap own_of_node h.is ∙ (opened.own (slice_index places list) h.node h.is ∙ ap (own_at s) h.same))
+
+    state_is : state_of nodes places ≡ s
+    state_is = same_state (state_of nodes places) s long same
+
+    few : too_long limit s ≡ None
+    few = none_longer limit (table_of s) (turns s) (λ y c. opened_few limit lists places order nodes (length order) ready opened y
+        (subst (λ xs. Contains xs y) (sym (take_all order)) (subst (λ xs. Contains xs y) (sym ready.order_is) c)))
