@@ -44,7 +44,7 @@ each_input P (Filter input k) i h c = one P input i h c
 each_input P (Range input k) i h c = one P input i h c
 each_input P (Function input k) i h c = one P input i h c
 
-get_node_front : (nodes : List Node) (n k : ℕ) (node : Node) → slice_get (take n nodes) k ≡ Some node → (slice_get nodes k ≡ Some node) × (k < n)
+pub get_node_front : (nodes : List Node) (n k : ℕ) (node : Node) → slice_get (take n nodes) k ≡ Some node → (slice_get nodes k ≡ Some node) × (k < n)
 get_node_front nodes zero k node e = absurd cc
 get_node_front [] (suc n) k node e = absurd cc
 get_node_front (m ∷ nodes) (suc n) zero node e = (e, omega arith)
@@ -56,7 +56,7 @@ get_node_within [] (suc n) k node h e = e
 get_node_within (m ∷ nodes) (suc n) zero node h e = e
 get_node_within (m ∷ nodes) (suc n) (suc k) node h e = get_node_within nodes n k node (omega arith) e
 
-number_at : (nodes : List Node) (k : ℕ) (node : Node) → slice_get nodes k ≡ Some node → slice_get (numbers nodes) k ≡ Some node.list
+pub number_at : (nodes : List Node) (k : ℕ) (node : Node) → slice_get nodes k ≡ Some node → slice_get (numbers nodes) k ≡ Some node.list
 number_at [] k node e = absurd cc
 number_at (m ∷ nodes) zero node e = let same : m ≡ node = cc in ap (λ (x : Node). Some x.list) same
 number_at (m ∷ nodes) (suc k) node e = number_at nodes k node e

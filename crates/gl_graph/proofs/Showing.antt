@@ -160,7 +160,7 @@ get_front [] (suc n) k x e = absurd cc
 get_front (y ∷ ys) (suc n) zero x e = e
 get_front (y ∷ ys) (suc n) (suc k) x e = get_front ys n k x e
 
-numbers_front : (nodes : List Node) (n : ℕ) → numbers (take n nodes) ≡ take n (numbers nodes)
+pub numbers_front : (nodes : List Node) (n : ℕ) → numbers (take n nodes) ≡ take n (numbers nodes)
 numbers_front nodes zero = refl
 numbers_front [] (suc n) = refl
 numbers_front (m ∷ nodes) (suc n) = ap (λ xs. m.list ∷ xs) (numbers_front nodes n)

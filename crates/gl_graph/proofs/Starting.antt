@@ -1,6 +1,6 @@
 -- The lists of a plan open in their order, or one is too long.
-use Rattle.std.proofs.Common.{◌≡◌, ◌∙◌, ℕ, zero, suc, ◌+◌, ◌<◌, ◌≤◌, Bool, true, false, List, [], ◌∷◌, ◌++◌, length, map, take, refl, ap, sym, subst, arith, nat_le, if◌then◌else◌}
-use Rattle.std.specs.Prelude.{Option, Some, None, slice_get, slice_index, unwrap_or}
+use Rattle.std.proofs.Common.{◌≡◌, ◌∙◌, ℕ, zero, suc, ◌<◌, ◌≤◌, Bool, true, false, List, [], ◌∷◌, ◌++◌, length, map, take, refl, ap, sym, subst, arith, nat_le, if◌then◌else◌}
+use Rattle.std.specs.Prelude.{Option, Some, None, slice_get, slice_index}
 use Rattle.std.specs.List.{Contains}
 use Rattle.std.proofs.lemmas.Bool.{le-leb, lt-leb}
 use Rattle.std.proofs.lemmas.Option.{slice_get_within}
@@ -12,7 +12,6 @@ use Rattle.spec_order.specs.Order.{IsOrder}
 use Rattle.spec_order.proofs.Exists.{turns-from_IsOrder}
 use Rattle.spec_order.proofs.Acyclic.{Contains-order}
 use Rattle.spec_order.proofs.Members.{Contains-here, Contains-later}
-use Rattle.spec_value.specs.Tree.{Tree}
 use Rattle.gl_lines.specs.declared.plan.ListDecl.{ListDecl}
 use Rattle.gl_lines.specs.declared.plan.ListKind.{ListKind}
 use Rattle.gl_lines.specs.declared.plan.ListKind.TheVariants as kinds
@@ -20,7 +19,7 @@ use Rattle.gl_lines.specs.declared.reply.Reply.{Reply}
 use Rattle.gl_lines.specs.declared.reply.Reply.TheVariants as reply
 use Rattle.spec_plans.specs.Plan.{Plan, inputs_of, edges_from}
 use Rattle.gl_whole_plan.specs.Whole.{IsWhole}
-use Rattle.spec_states.specs.State.{Own, State, source, inputs, opening_of, own_at, edges_of, turns}
+use Rattle.spec_states.specs.State.{State, inputs, opening_of, own_at, edges_of, turns}
 use Rattle.spec_states.specs.Shown.{Table, view, shown, shows_in, table_of}
 use Rattle.spec_states.specs.Step.{first_longer, too_long}
 use Rattle.spec_states.specs.Laws.{IsOrdered}
@@ -32,11 +31,10 @@ use Rattle.gl_graph.specs.declared.node.Node.{Node}
 use Rattle.gl_graph.specs.declared.fault.BuildFault.{BuildFault}
 use Rattle.gl_graph.specs.declared.fault.BuildFault.TheVariants.{TooLong, Memory}
 use Rattle.gl_graph.specs.Nodes.{own_of, own_of_node, own_in, state_of, numbers, shown_by, OnInput, IsPlaced}
-use Rattle.gl_graph.specs.Graph.{IsGraph}
 use Rattle.gl_graph.specs.Opening.{IsBuilt, IsKindBuilt, AreKindsBuilt}
 use Rattle.gl_graph.specs.Places.{ArePlaces}
 use Rattle.gl_graph.specs.Build.{IsOneMore, IsFault, AreOpened, AreReady, AreOpen, IsReason, opened_lists}
-use Rattle.gl_graph.proofs.Showing.{turns_of_settled, own_at_state, member_at}
+use Rattle.gl_graph.proofs.Showing.{turns_of_settled, own_at_state}
 use Rattle.gl_graph.proofs.Fronts.{node_of, agrees}
 use Rattle.gl_graph.proofs.Building.{opened_more}
 use Rattle.gl_graph.proofs.Turning.{order_below, placed_in, follow_at, take_next, take_all, take_long, index_of_get}
@@ -107,6 +105,13 @@ ready_of limit lists places order few few_lists built ordered_is is long are = r
   places_are = are;
 }
 
+pub ready_by : (limit : ℕ) (lists : List ListDecl) (places order : List ℕ) (edges : List (ℕ × ℕ)) → limit ≤ 2147483647 → length lists ≤ 256 → AreKindsBuilt lists
+    → IsOrdered (opened_lists lists) → edges ≡ edges_from 0 (map (λ (d : ListDecl). inputs_of d.kind) lists) → IsOrder (length lists) edges order
+    → length places ≡ length lists → ArePlaces places order (length lists) → AreReady limit lists places order
+ready_by limit lists places order edges few few_lists built ordered_is edges_are is long are =
+    ready_of limit lists places order few few_lists built ordered_is
+    (subst (λ es. IsOrder (length lists) es order) (edges_are ∙ sym (opened_edges lists)) is) long are
+
 order_of : (limit : ℕ) (lists : List ListDecl) (places order : List ℕ) → AreReady limit lists places order → IsOrder (length lists) (edges_of (opened_lists lists)) order
 order_of limit lists places order ready =
     let s : State = opened_lists lists in
@@ -170,7 +175,7 @@ le_no x y h = lt-leb x y h
 abbrev choose : Table → ℕ → List ℕ → ℕ → Bool → Option Reply
 choose t limit ys y b = if b then first_longer limit t ys else Some (reply.TooLong y (length (shows_in t y)))
 
-longer_at : (limit : ℕ) (t : Table) (xs : List ℕ) (k x : ℕ) → slice_get xs k ≡ Some x → ((y : ℕ) → Contains (take k xs) y → length (shows_in t y) ≤ limit)
+pub longer_at : (limit : ℕ) (t : Table) (xs : List ℕ) (k x : ℕ) → slice_get xs k ≡ Some x → ((y : ℕ) → Contains (take k xs) y → length (shows_in t y) ≤ limit)
     → limit < length (shows_in t x) → first_longer limit t xs ≡ Some (reply.TooLong x (length (shows_in t x)))
 longer_at limit t [] k x e few more = absurd cc
 longer_at limit t (y ∷ ys) zero x e few more =
@@ -181,7 +186,7 @@ longer_at limit t (y ∷ ys) (suc k) x e few more =
     ap (choose t limit ys y) (le_yes (length (shows_in t y)) limit (few y (Contains-here y (take k ys) y refl)))
     ∙ longer_at limit t ys k x e (λ z c. few z (Contains-later y (take k ys) z c)) more
 
-none_longer : (limit : ℕ) (t : Table) (xs : List ℕ) → ((y : ℕ) → Contains xs y → length (shows_in t y) ≤ limit) → first_longer limit t xs ≡ None
+pub none_longer : (limit : ℕ) (t : Table) (xs : List ℕ) → ((y : ℕ) → Contains xs y → length (shows_in t y) ≤ limit) → first_longer limit t xs ≡ None
 none_longer limit t [] few = refl
 none_longer limit t (y ∷ ys) few =
     ap (choose t limit ys y) (le_yes (length (shows_in t y)) limit (few y (Contains-here y ys y refl)))
@@ -221,7 +226,7 @@ next_reason limit lists places order nodes k list d (TooLong number n) ready ope
     ∙ (longer_at limit (table_of s) order k list here (opened_few limit lists places order nodes k ready opened) more
     ∙ (ap (λ m. Some (reply.TooLong list m)) (sym long) ∙ ap (λ l. Some (reply.TooLong l n)) (sym fault.0)))
 
-same_state : (s t : State) → length s ≡ length t → ((k : ℕ) → k < length t → own_at s k ≡ own_at t k) → s ≡ t
+pub same_state : (s t : State) → length s ≡ length t → ((k : ℕ) → k < length t → own_at s k ≡ own_at t k) → s ≡ t
 same_state [] [] e f = refl
 same_state [] (u ∷ t) e f = absurd (omega (arith, e))
 same_state (o ∷ s) [] e f = absurd (omega (arith, e))

@@ -1,6 +1,6 @@
 -- The dependency order of lists, and the places in it.
-use Rattle.std.proofs.Common.{◌≡◌, ◌∙◌, ℕ, zero, suc, ◌+◌, ◌<◌, ◌≤◌, Bool, true, false, ltb, List, [], ◌∷◌, ◌++◌, length, take, refl, ap, sym, subst, arith, inl, inr}
-use Rattle.std.specs.Prelude.{Option, Some, None, slice_get, slice_index}
+use Rattle.std.proofs.Common.{◌≡◌, ℕ, zero, suc, ◌<◌, ◌≤◌, Bool, true, false, ltb, List, [], ◌∷◌, ◌++◌, length, take, refl, ap, sym, subst, arith, inl, inr}
+use Rattle.std.specs.Prelude.{Some, slice_get, slice_index}
 use Rattle.std.specs.List.{Contains}
 use Rattle.std.proofs.lemmas.Bool.{ltb-true, ltb-false}
 use Rattle.std.proofs.lemmas.List.{append_assoc}
@@ -44,11 +44,11 @@ index_of_get (y ∷ ys) zero x e = cc
 index_of_get (y ∷ ys) (suc k) x e = index_of_get ys k x e
 
 -- where a number stands
-record IsAt (xs : List ℕ) (x : ℕ) : Type 0 where
+pub record IsAt (xs : List ℕ) (x : ℕ) : Type 0 where
   pub place : ℕ
   pub is : slice_get xs place ≡ Some x
 
-at_of : (xs : List ℕ) (x : ℕ) → Contains xs x → IsAt xs x
+pub at_of : (xs : List ℕ) (x : ℕ) → Contains xs x → IsAt xs x
 at_of [] x c = absurd (omega (arith, c.1))
 at_of (y ∷ ys) x c = elim (Contains-cons_cases y ys x c) [
   | inl e ↦ record { place = 0; is = ap (λ (z : ℕ). Some z) e }

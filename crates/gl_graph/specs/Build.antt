@@ -7,6 +7,7 @@ use Rattle.spec_states.specs.Step.{too_long}
 use Rattle.spec_states.specs.Laws.{IsOrdered}
 use Rattle.spec_states.specs.Shown.{view}
 use Rattle.gl_graph.specs.declared.node.Node.{Node}
+use Rattle.gl_graph.specs.declared.start.Turns.{Turns}
 use Rattle.gl_graph.specs.declared.fault.BuildFault.{BuildFault}
 use Rattle.gl_graph.specs.declared.fault.BuildFault.TheVariants.{TooLong, Memory}
 use Rattle.gl_graph.specs.Nodes.{own_of, numbers, shown_by, state_of, StandsFor, AreSettled}
@@ -61,3 +62,19 @@ pub record AreOpen (limit : ℕ) (lists : List ListDecl) (nodes : List Node) (pl
   pub state_is : state_of nodes places ≡ opened_lists lists
   pub few : too_long limit (opened_lists lists) ≡ None
   pub graph : IsGraph limit nodes places
+
+-- the lists may be opened in turn
+abbrev pub AreTurns : Turns → Type 0
+AreTurns t = AreReady t.limit t.lists.now t.places.items t.order
+
+-- those at the first k places of the order are open
+abbrev pub AreOpenTo : Turns → ℕ → List Node → Type 0
+AreOpenTo t k nodes = AreOpened t.limit (opened_lists t.lists.now) t.places.items t.order k nodes
+
+-- all are
+abbrev pub AllAreOpen : Turns → List Node → Type 0
+AllAreOpen t nodes = AreOpen t.limit t.lists.now nodes t.places.items
+
+-- why they can't all be
+abbrev pub IsReasonOf : Turns → BuildFault → Type 0
+IsReasonOf t fault = IsReason t.limit (opened_lists t.lists.now) fault

@@ -6,3 +6,6 @@ pub mod Graph
 pub mod Opening
 pub mod Places
 pub mod Build
+pub mod Waves
+pub mod Backs
+pub mod Spread

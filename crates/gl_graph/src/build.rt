@@ -16,8 +16,8 @@ use gl_value::Steps;
 use std::alloc::{AllocError, Global};
 use std::sync::ledger::Ledger;
 
-// One list more behind those that are open.
-fn open_next<L: Ledger>(
+/// One list more behind those that are open.
+pub(crate) fn open_next<L: Ledger>(
     alloc: Global,
     nodes: &mut Vec<Node>,
     places: &[u32],

@@ -13,13 +13,22 @@ mod kernel;
 mod node;
 mod open;
 mod place;
+mod retreat;
 mod seen;
+mod spread;
+mod start;
+#[cfg(test)]
+mod tests;
+mod turn;
 mod undo;
+mod wave;
 
 pub use fault::BuildFault;
 pub use gl_value::Memory;
 pub use graph::Graph;
 pub use kernel::Kernel;
 pub use node::Node;
+pub use retreat::GraphUndo;
 pub use seen::Seen;
 pub use undo::KernelUndo;
+pub use wave::{Refused, Wave};

@@ -109,7 +109,7 @@ fn source_of(alloc: Global, rows: &Values, limit: u64) -> Result<Kernel, OpenFau
 
 // A list seen through the nodes at the front.
 #[tactic(auto, using(crate::proofs::Fronts::placed_few))]
-fn seen<'a>(front: &'a [Node], places: &'a [u32], list: u32) -> Seen<'a>
+pub(crate) fn seen<'a>(front: &'a [Node], places: &'a [u32], list: u32) -> Seen<'a>
     requires settled { AreSettled front.now places.now }
     requires placed { IsPlaced front.now places.now list }
     ensures front { result.front ≡ front.now }

@@ -1,4 +1,4 @@
-use Rattle.std.proofs.Common.{◌≡◌, ◌≤◌, ◌<◌, length, refl, sym, subst}
+use Rattle.std.proofs.Common.{◌≤◌, length, refl, sym, subst}
 use Rattle.spec_states.specs.State.{opening_of}
 use Rattle.spec_states.specs.Shown.{view}
 use Rattle.gl_source.specs.declared.fault.OpenFault.TheVariants.{TooLong}

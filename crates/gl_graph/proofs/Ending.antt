@@ -1,0 +1,194 @@
+-- How a command begins to spread, and what holds once it came to the last place.
+use Rattle.std.proofs.Common.{◌≡◌, ◌∙◌, ℕ, zero, suc, ◌<◌, ◌≤◌, Bool, true, false, nat_le, if◌then◌else◌, List, [], ◌∷◌, length, take, replicate, refl, ap, sym, subst, arith, inl, inr}
+use Rattle.std.specs.Prelude.{Option, Some, None, slice_get, slice_index, slice_index_or}
+use Rattle.std.specs.Option.{option_or}
+use Rattle.std.specs.List.{Contains}
+use Rattle.std.proofs.lemmas.Bool.{leb-true}
+use Rattle.std.proofs.lemmas.List.{length-map}
+use Rattle.std.proofs.lemmas.Option.{slice_get_within}
+use Rattle.spec_order.proofs.Members.{Contains-cons_cases}
+use Rattle.gl_lines.specs.declared.plan.Command.{Command}
+use Rattle.gl_lines.specs.declared.reply.Reply.TheVariants as reply
+use Rattle.gl_delta.specs.Told.{Told}
+use Rattle.spec_states.specs.State.{State, own_at, turns}
+use Rattle.spec_states.specs.Laws.{IsOrdered}
+use Rattle.spec_states.specs.Shown.{Table, shows_in, shown, table_of}
+use Rattle.spec_states.specs.Wave.{origin, wave}
+use Rattle.spec_states.specs.Step.{first_longer, refusal, too_long, unmoved}
+use Rattle.spec_states.proofs.Views.{wave_ordered}
+use Rattle.gl_graph.specs.declared.node.Node.{Node}
+use Rattle.gl_graph.specs.declared.undo.KernelUndo.{KernelUndo}
+use Rattle.gl_graph.specs.Nodes.{own_of_node, numbers, state_of, IsPlaced, AreSettled}
+use Rattle.gl_graph.specs.Graph.{IsGraph}
+use Rattle.gl_graph.specs.Undos.{contents, room_of}
+use Rattle.gl_graph.specs.Waves.{AreTold, contents_of, before_all, CanAllGoBack, HaveRoomOf}
+use Rattle.gl_graph.specs.Spread.{IsBegun, AreTurned, LeadBack, IsSpread}
+use Rattle.gl_graph.proofs.Showing.{turns_of_settled, own_at_state, member_at}
+use Rattle.gl_graph.proofs.Fronts.{node_of}
+use Rattle.gl_graph.proofs.Starting.{none_longer, same_state}
+use Rattle.gl_graph.proofs.Turning.{take_all}
+use Rattle.gl_graph.proofs.Nexting.{long_state, long_wave}
+use Rattle.gl_graph.proofs.Refusing.{front_few, unmoved_by, wave_turns}
+
+-- where none is too long, each is within the limit
+few_by : (limit : ℕ) (t : Table) (xs : List ℕ) (y : ℕ) → first_longer limit t xs ≡ None → Contains xs y → length (shows_in t y) ≤ limit
+few_by limit t [] y e c = absurd (omega (arith, c.1))
+few_by limit t (x ∷ xs) y e c = by_test (nat_le (length (shows_in t x)) limit) refl e (λ h later. few_by limit t xs y h later)
+  where
+    by_test : (b : Bool) → nat_le (length (shows_in t x)) limit ≡ b → (if b then first_longer limit t xs else Some (reply.TooLong x (length (shows_in t x)))) ≡ None
+        → (first_longer limit t xs ≡ None → Contains xs y → length (shows_in t y) ≤ limit) → length (shows_in t y) ≤ limit
+    by_test true f h rest = elim (Contains-cons_cases x xs y c) [
+      | inl same ↦ subst (λ z. length (shows_in t z) ≤ limit) same (leb-true (length (shows_in t x)) limit f)
+      | inr later ↦ rest h later
+    ]
+    by_test false f h rest = absurd cc
+
+pub shown_few : (limit : ℕ) (old : List Node) (places : List ℕ) → IsGraph limit old places → (list : ℕ) → list < length places → length (shown (state_of old places) list) ≤ limit
+shown_few limit old places g list within =
+    let s : State = state_of old places in
+    few_by limit (table_of s) (turns s) list g.within (subst (λ xs. Contains xs list) (sym g.order) (member_at (numbers old) (slice_index places list) list (g.placed list within).there))
+
+-- nothing yet
+all_at : {X : Type 0} (x : X) (n k : ℕ) → slice_index_or (replicate n x) k x ≡ x
+all_at x zero k = refl
+all_at x (suc n) zero = refl
+all_at x (suc n) (suc k) = all_at x n k
+
+all_long : {X : Type 0} (x : X) (n : ℕ) → length (replicate n x) ≡ n
+all_long x zero = refl
+all_long x (suc n) = ap suc (all_long x n)
+
+all_get : {X : Type 0} (x : X) (n k : ℕ) → k < n → slice_get (replicate n x) k ≡ Some x
+all_get x zero k h = absurd (omega (arith, h))
+all_get x (suc n) zero h = refl
+all_get x (suc n) (suc k) h = all_get x n k (omega (arith, h))
+
+none_back : (n : ℕ) (nodes : List Node) → before_all (replicate n None) nodes ≡ contents_of nodes
+none_back n [] = refl
+none_back zero (m ∷ nodes) = ap (λ ks. contents m.kernel ∷ ks) (none_back zero nodes)
+none_back (suc n) (m ∷ nodes) = ap (λ ks. contents m.kernel ∷ ks) (none_back n nodes)
+
+none_can : (n : ℕ) (nodes : List Node) → CanAllGoBack (replicate n None) nodes
+none_can n [] = tt
+none_can zero (m ∷ nodes) = tt
+none_can (suc n) (m ∷ nodes) = (tt, none_can n nodes)
+
+same_room : (nodes : List Node) → HaveRoomOf nodes nodes
+same_room nodes p a b at_a at_b =
+    let both : Some a ≡ Some b = sym at_a ∙ at_b in
+    let one : a ≡ b = cc in
+    subst (λ (m : Node). room_of a.kernel ≤ room_of m.kernel) one (omega arith)
+
+pub spread_begins : (limit : ℕ) (old : List Node) (places : List ℕ) (command : Command) (told : List (Option Told)) (undos : List (Option KernelUndo)) → IsBegun limit old places command
+    → told ≡ replicate (length places) None → undos ≡ replicate (length old) None → IsSpread limit old places command 0 old told undos
+spread_begins limit old places command told undos begun told_is undos_is = record {
+  begun = begun;
+  turned = record {
+    numbers_are = refl;
+    turns = turns_of_settled old places begun.graph.settled;
+    settled = λ p n at. absurd (nothing p n at);
+    own = λ p n low at. absurd (omega (arith, low));
+    rest = λ p high. refl;
+    limited = begun.graph.limited;
+    few = λ list within low. absurd (omega (arith, low));
+    inside = λ low. absurd (omega (arith, low));
+  };
+  told_to = record {
+    long = ap length told_is ∙ all_long None (length places);
+    each = λ list within low. absurd (omega (arith, low));
+    same = λ list within low none. absurd (omega (arith, low));
+    others = λ list within high. none list;
+    quiet = λ high list. none list;
+  };
+  back = record {
+    numbers_are = refl;
+    back = ap (λ us. before_all us old) undos_is ∙ none_back (length old) old;
+    can = subst (λ us. CanAllGoBack us old) (sym undos_is) (none_can (length old) old);
+    room = same_room old;
+  };
+  waiting = λ p high within. ap (λ us. slice_get us p) undos_is ∙ all_get None (length old) p within;
+}
+  where
+    none : (list : ℕ) → slice_index_or told list None ≡ None
+    none list = ap (λ ts. slice_index_or ts list None) told_is ∙ all_at None (length places) list
+
+    nothing : (p : ℕ) (n : Node) → slice_get [] p ≡ Some n → ⊥
+    nothing p n e = absurd cc
+
+-- the command came to the last place
+pub record IsDone (limit : ℕ) (old : List Node) (places : List ℕ) (command : Command) (nodes : List Node) (told : List (Option Told)) (undos : List (Option KernelUndo)) : Type 0 where
+  pub moves : unmoved limit (state_of old places) command ≡ None
+  pub state : state_of nodes places ≡ wave (state_of old places) command
+  pub told_is : AreTold (state_of old places) command told
+  pub graph : IsGraph limit nodes places
+  pub back : LeadBack old nodes undos
+
+take_nodes : (nodes : List Node) (n : ℕ) → length nodes ≡ n → take n nodes ≡ nodes
+take_nodes [] zero e = refl
+take_nodes [] (suc n) e = refl
+take_nodes (m ∷ nodes) zero e = absurd (omega (arith, e))
+take_nodes (m ∷ nodes) (suc n) e = ap (λ xs. m ∷ xs) (take_nodes nodes n (omega (arith, e)))
+
+pub spread_ends : (limit : ℕ) (old : List Node) (places : List ℕ) (command : Command) (nodes : List Node) (told : List (Option Told)) (undos : List (Option KernelUndo))
+    → IsSpread limit old places command (length old) nodes told undos → IsDone limit old places command nodes told undos
+spread_ends limit old places command nodes told undos h = record {
+  moves = unmoved_by limit old places command h.begun ∙ (ap (λ r. option_or r (too_long limit w)) inside ∙ few);
+  state = state;
+  told_is = record {
+    long = h.told_to.long ∙ sym (long_state old places);
+    each = λ list within. let low : list < length places = omega (arith, within, long_state old places) in h.told_to.each list low (place_low list low);
+  };
+  graph = record {
+    few_lists = g.few_lists;
+    few = g.few;
+    placed = placed;
+    ordered = subst IsOrdered (sym state) (wave_ordered s command g.ordered);
+    order = ap turns state ∙ (wave_turns s command ∙ (g.order ∙ sym t.numbers_are));
+    settled = subst (λ xs. AreSettled xs places) (take_nodes nodes (length old) long_nodes) t.settled;
+    limited = t.limited;
+    within = ap (too_long limit) state ∙ few;
+  };
+  back = h.back;
+}
+  where
+    s : State
+    s = state_of old places
+
+    w : State
+    w = wave s command
+
+    g : IsGraph limit old places
+    g = h.begun.graph
+
+    t : AreTurned limit old places command (length old) nodes
+    t = h.turned
+
+    long_numbers : (ns : List Node) → length (numbers ns) ≡ length ns
+    long_numbers ns = length-map ns (λ (n : Node). n.list)
+
+    long_nodes : length nodes ≡ length old
+    long_nodes = sym (long_numbers nodes) ∙ (ap length t.numbers_are ∙ long_numbers old)
+
+    place_low : (list : ℕ) → list < length places → slice_index places list < length old
+    place_low list within =
+        let low : slice_index places list < length (numbers old) = slice_get_within (numbers old) (slice_index places list) list (g.placed list within).there in
+        omega (arith, low, long_numbers old)
+
+    placed : (list : ℕ) → list < length places → IsPlaced nodes places list
+    placed list within = record { within = within; there = subst (λ xs. slice_get xs (slice_index places list) ≡ Some list) (sym t.numbers_are) (g.placed list within).there }
+
+    inside : refusal s command ≡ None
+    inside = t.inside (place_low (origin command) (omega (arith, h.begun.within, long_state old places)))
+
+    few : too_long limit w ≡ None
+    few = none_longer limit (table_of w) (turns w) (λ y c. front_few limit old places command (length old) nodes h.begun t y
+        (subst (λ xs. Contains xs y) (sym (ap (λ n. take n (numbers old)) (sym (long_numbers old)) ∙ take_all (numbers old))) (subst (λ xs. Contains xs y) (wave_turns s command ∙ g.order) c)))
+
+    same : (list : ℕ) → list < length w → own_at (state_of nodes places) list ≡ own_at w list
+    same list within =
+        let low : list < length places = omega (arith, within, long_wave old places command) in
+        let n = node_of nodes (slice_index places list) list (placed list low).there in
+        own_at_state nodes places list low ∙ (ap own_of_node n.is ∙ (t.own (slice_index places list) n.node (place_low list low) n.is ∙ ap (own_at w) n.same))
+
+    state : state_of nodes places ≡ w
+    state = same_state (state_of nodes places) w (long_state nodes places ∙ sym (long_wave old places command)) same

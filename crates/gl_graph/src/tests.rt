@@ -1,0 +1,183 @@
+ghost use Rattle.std.specs.Prelude.{◌≤◌, IsTrue, OnOk};
+ghost use Rattle.gl_graph.specs.Opening.{IsKindBuilt, AreKindsBuilt};
+
+use crate::{BuildFault, Graph};
+use gl_lang::{Bounds, Func, Matcher, Path, Test};
+use gl_lines::{Line, Lines, ListDecl, ListKind, Named, NumberedLine};
+use gl_types::Name;
+use gl_value::{Items, Text, Value};
+use gl_whole_plan::Plan;
+use std::alloc::Global;
+use std::process::Abort;
+
+fn named(rt: &(impl Abort + AllocGlobal), name: &[u8]) -> Named {
+    match Text::from_utf8(rt.alloc(), name) {
+        Ok(text) => match Name::new(text) {
+            Ok(name) => Named { name, column: 1 },
+            Err(_) => panic!(rt; "no name"),
+        },
+        Err(_) => panic!(rt; "no text"),
+    }
+}
+
+fn add(rt: &(impl Abort + AllocGlobal), lines: &mut Lines, what: Line) {
+    let line = lines.len() as u64;
+    match lines.push(NumberedLine { line, what }) {
+        Ok(()) => {}
+        Err(_) => panic!(rt; "out of memory"),
+    }
+}
+
+// A source of numbers.
+fn source(rt: &(impl Abort + AllocGlobal), lines: &mut Lines, name: &[u8], rows: &[i64]) {
+    add(
+        rt,
+        lines,
+        Line::Source {
+            name: named(rt, name),
+        },
+    );
+    for row in rows {
+        add(
+            rt,
+            lines,
+            Line::Row {
+                list: named(rt, name),
+                value: Value::num(*row),
+            },
+        );
+    }
+}
+
+fn range(
+    rt: &(impl Abort + AllocGlobal),
+    lines: &mut Lines,
+    name: &[u8],
+    input: &[u8],
+    bounds: Bounds,
+) {
+    add(
+        rt,
+        lines,
+        Line::Range {
+            name: named(rt, name),
+            input: named(rt, input),
+            bounds,
+        },
+    );
+}
+
+// The function that adds ten.
+fn plus_ten(rt: &(impl Abort + AllocGlobal)) -> Func {
+    let alloc = rt.alloc();
+    match (
+        Box::new(alloc, Func::at(Path::new(alloc))),
+        Box::new(alloc, Func::num(10)),
+    ) {
+        (Ok(itself), Ok(ten)) => Func::add(itself, ten),
+        _ => panic!(rt; "out of memory"),
+    }
+}
+
+// Those above one of the last two of 1, 2 and 3, each declared before what it depends on; behind them ten more than
+// each of these, and the first of them.
+fn five(rt: &(impl Abort + AllocGlobal)) -> Lines {
+    let alloc = rt.alloc();
+    let mut lines = Items::new(alloc);
+    add(
+        rt,
+        &mut lines,
+        Line::Filter {
+            name: named(rt, b"large"),
+            input: named(rt, b"last"),
+            matcher: Matcher::is(Path::new(alloc), Test::Gt, Value::num(1)),
+        },
+    );
+    range(rt, &mut lines, b"last", b"all", Bounds::Tail(2, 0));
+    source(rt, &mut lines, b"all", &[1, 2, 3]);
+    add(
+        rt,
+        &mut lines,
+        Line::Function {
+            name: named(rt, b"more"),
+            input: named(rt, b"large"),
+            func: plus_ten(rt),
+        },
+    );
+    range(rt, &mut lines, b"first", b"more", Bounds::Head(0, 1));
+    lines
+}
+
+fn is_built(kind: &ListKind) -> bool
+    ensures { IsTrue result → IsKindBuilt kind.now }
+{
+    match kind {
+        ListKind::Source { .. } => true,
+        ListKind::Filter { .. } => true,
+        ListKind::Range { .. } => true,
+        ListKind::Function { .. } => true,
+        _ => false,
+    }
+}
+
+fn are_built(lists: &[ListDecl]) -> bool
+    ensures { IsTrue result → AreKindsBuilt lists.now }
+{
+    for list in lists {
+        if !is_built(&list.kind) {
+            return false;
+        }
+    }
+    true
+}
+
+fn built(rt: &(impl Abort + AllocGlobal), lines: Lines) -> Result<Graph, BuildFault> {
+    match Plan::from_lines(rt.alloc(), lines) {
+        Ok(plan) => {
+            assert!(rt; are_built(plan.lists()) && plan.limit() <= 2_147_483_647);
+            Graph::build(rt.alloc(), &plan)
+        }
+        Err(_) => panic!(rt; "no plan"),
+    }
+}
+
+fn shows(graph: &Graph, list: u32, rows: &[i64]) -> bool {
+    for place in 0..rows.len() {
+        match graph.get(list, place) {
+            Some(value) => {
+                if !value.same(&Value::num(rows[place])) {
+                    return false;
+                }
+            }
+            None => return false,
+        }
+    }
+    graph.len(list) == rows.len() && graph.get(list, rows.len()).is_none()
+}
+
+#[test]
+fn lists_open_behind_what_they_depend_on(rt: HostRuntime) {
+    match built(&rt, five(&rt)) {
+        Ok(graph) => {
+            assert!(rt; shows(&graph, 0, &[2, 3]));
+            assert!(rt; shows(&graph, 1, &[2, 3]));
+            assert!(rt; shows(&graph, 2, &[1, 2, 3]));
+            assert!(rt; shows(&graph, 3, &[12, 13]));
+            assert!(rt; shows(&graph, 4, &[12]));
+            assert!(rt; shows(&graph, 5, &[]));
+        }
+        Err(_) => panic!(rt; "no graph"),
+    }
+}
+
+#[test]
+fn a_list_longer_than_the_limit(rt: HostRuntime) {
+    let mut lines = Items::new(rt.alloc());
+    add(&rt, &mut lines, Line::Limit { limit: 1 });
+    source(&rt, &mut lines, b"one", &[1]);
+    source(&rt, &mut lines, b"two", &[1, 2]);
+    match built(&rt, lines) {
+        Err(BuildFault::TooLong { list, len }) => assert_eq!(rt; (list, len), (1, 2)),
+        _ => panic!(rt; "no fault"),
+    }
+}
