@@ -1,0 +1,3 @@
+pub mod Orders
+pub mod Words
+pub mod Answer
