@@ -1,4 +1,4 @@
 pub mod WordLaws
-pub mod ViewLaws
+pub mod PlanLaws
+pub mod RequestLaws
 pub mod CallLaws
-pub mod OutcomeLaws

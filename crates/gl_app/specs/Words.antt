@@ -5,15 +5,24 @@ use Rattle.gl_outside.specs.declared.gate.Actor.{Actor}
 use Rattle.gl_outside.specs.declared.gate.Actor.TheVariants.{Writer, Proxy}
 use Rattle.gl_text.specs.Numbers.{index_in}
 use Rattle.spec_texts.specs.Cuts.{with_front}
+use Rattle.spec_whole_texts.specs.Words.{Request as RequestData, check, replay}
+use Rattle.gl_app.specs.declared.words.Request.{Request}
+use Rattle.gl_app.specs.declared.words.Request.TheVariants.{Check, Replay}
 
 -- the actors of an order that was read
 abbrev pub entries_of : {X Y : Type 0} → Vec X Y → List X
 entries_of order = order.items
 
+-- the request that was read
+abbrev pub request_of : Request → RequestData
+request_of Check = check
+request_of (Replay order) = replay order.items
+
 -- the actor that the bytes spell
 unfoldable pub actor_in : List ℕ → Option Actor
 actor_in [] = None
-actor_in (b ∷ bs) = if b == 119 then option_map Writer (index_in bs) else if b == 112 then option_map Proxy (index_in bs) else None
+actor_in (b ∷ bs) =
+    if b == 119 then option_map Writer (index_in bs) else if b == 112 then option_map Proxy (index_in bs) else None
 
 -- the bytes between commas
 abbrev pub pieces : List ℕ → List (List ℕ)
@@ -29,9 +38,9 @@ actors_in (piece ∷ pieces) = option_and_then (λ a. option_map (λ order. a �
 abbrev pub order_in : List ℕ → Option (List Actor)
 order_in bytes = if bytes_eq bytes (codes "-") then Some [] else actors_in (pieces bytes)
 
--- the order whose replay the words ask for
-abbrev pub asked : List (List ℕ) → Option (List Actor)
+-- what the words ask for
+abbrev pub asked : List (List ℕ) → Option RequestData
 asked [] = None
-asked (keyword ∷ []) = None
-asked (keyword ∷ order ∷ []) = if bytes_eq keyword (codes "replay") then order_in order else None
+asked (keyword ∷ []) = if bytes_eq keyword (codes "check") then Some check else None
+asked (keyword ∷ order ∷ []) = if bytes_eq keyword (codes "replay") then option_map replay (order_in order) else None
 asked (keyword ∷ order ∷ more ∷ words) = None

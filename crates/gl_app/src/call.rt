@@ -1,10 +1,12 @@
 //! The call that does a run without threads.
 
-ghost use Rattle.std.specs.Prelude.{◌≡◌, ◌+◌, ◌⊎◌, ℕ, length};
+ghost use Rattle.std.specs.Prelude.{◌≡◌, ◌+◌, ◌⊎◌, ℕ, List, length};
+ghost use Rattle.gl_outside.specs.declared.gate.Actor.{Actor};
 ghost use Rattle.gl_outside.specs.Faults.{Rose};
-ghost use Rattle.spec_texts.specs.Order.{HaveNoForm};
+ghost use Rattle.spec_texts.specs.Order.{AsksReplay};
+ghost use Rattle.spec_whole_texts.specs.Words.{Asks, HaveNoForm, check};
 ghost use Rattle.gl_app.specs.Answer.{text_at};
-ghost use Rattle.gl_app.specs.Call.{Answered, IsAnswer, ReportsRun, HasRead, IsUsage, IsAhead, MostText, Gives};
+ghost use Rattle.gl_app.specs.Call.{Answered, IsAnswer, ReportsRun, WritesPlan, HasRead, IsUsage, IsAhead, MostText, Gives};
 
 use crate::answer::Answer;
 use crate::outcome::{Stop, answer_words};
@@ -19,7 +21,7 @@ struct Replay;
 impl RunName for Replay {}
 
 /// Does what the words ask for: it reads the source to its end, and gives the sink one text. It takes memory for the
-/// bytes, their plan and its world, and for the text, which is made whole before the sink is given anything.
+/// bytes, their plan and, for a replay, its world, and for the text, which is made whole before the sink is given anything.
 pub fn plain<S: Source, K: Sink>(
     alloc: Global,
     words: &[Text],
@@ -28,9 +30,14 @@ pub fn plain<S: Source, K: Sink>(
 ) -> Status
 
     // Where no count of faults rises, the words and the source's bytes fix the status and the text.
-    ensures answer { ¬ Rose (S.faults source.old) (S.faults source.new) → ¬ Rose (K.faults sink.old) (K.faults sink.new) → (result ≡ Status.Memory) ⊎ Answered words.now (S.remaining source.old) (K.contents sink.old) (K.contents sink.new) result }
+    ensures answer { ¬ Rose (S.faults source.old) (S.faults source.new) → ¬ Rose (K.faults sink.old) (K.faults sink.new)
+        → (result ≡ Status.Memory)
+        ⊎ Answered words.now (S.remaining source.old) (K.contents sink.old) (K.contents sink.new) result }
     ensures by_status { IsAnswer words.now (S.remaining source.old) (K.contents sink.old) (K.contents sink.new) result }
-    ensures headline { result ≡ Status.Done → ReportsRun words.now (S.remaining source.old) (K.contents sink.old) (K.contents sink.new) }
+    ensures headline { (order : List Actor) → AsksReplay words.now order → result ≡ Status.Done
+        → ReportsRun order (S.remaining source.old) (K.contents sink.old) (K.contents sink.new) }
+    ensures written { Asks words.now check → result ≡ Status.Done
+        → WritesPlan (S.remaining source.old) (K.contents sink.old) (K.contents sink.new) }
 
     // What was taken of the source.
     ensures reading { HasRead (S.remaining source.old) (S.remaining source.new) result }
@@ -42,7 +49,8 @@ pub fn plain<S: Source, K: Sink>(
     ensures write { result ≡ Status.Write → Rose (K.faults sink.old) (K.faults sink.new) }
     ensures untouched { IsAhead result → sink.new ≡ sink.old }
     ensures sound { S.never_fails source.old → S.faults source.new ≡ S.faults source.old }
-    ensures room { (n : ℕ) → MostText words.now (S.remaining source.old) n → K.has_room sink.old n → K.faults sink.new ≡ K.faults sink.old }
+    ensures room { (n : ℕ) → MostText words.now (S.remaining source.old) n → K.has_room sink.old n
+        → K.faults sink.new ≡ K.faults sink.old }
 {
     match answer_words::<Replay, S>(alloc, words, source) {
         Ok(answer) => give(sink, &answer),
@@ -55,7 +63,8 @@ pub fn plain<S: Source, K: Sink>(
 fn give<K: Sink>(sink: &mut K, answer: &Answer) -> Status
     ensures given { Gives (K.contents sink.old) (K.contents sink.new) answer.now result }
     ensures write { result ≡ Status.Write → Rose (K.faults sink.old) (K.faults sink.new) }
-    ensures room { (n : ℕ) → K.has_room sink.old (length (text_at answer.now) + n) → K.faults sink.new ≡ K.faults sink.old }
+    ensures room { (n : ℕ) → K.has_room sink.old (length (text_at answer.now) + n)
+        → K.faults sink.new ≡ K.faults sink.old }
 {
     match sink.give(answer.text()) {
         Given::All => answer.status(),

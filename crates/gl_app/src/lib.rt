@@ -1,17 +1,20 @@
 //! The top call of the program: it reads the words, takes the source whole, and gives the sink the text of what it
-//! came to. What that is for which words and bytes is defined in `spec_texts`.
+//! came to. What that is for which words and bytes is defined in `spec_whole_texts`.
 //! A text is made whole before the sink is given anything.
 #![tactic(auto)]
 
 mod answer;
+mod built;
 mod call;
 mod laws;
 mod outcome;
 mod reading;
 mod replaying;
+mod requests;
 mod status;
 #[cfg(test)]
 mod tests;
+mod texts;
 mod words;
 
 pub use call::plain;

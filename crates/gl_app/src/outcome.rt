@@ -1,22 +1,21 @@
 //! What a call comes to, from its words and its source.
 
-ghost use Rattle.std.specs.Prelude.{◌≡◌, ◌≤◌, [], length, IfOk, IsErrOf};
-ghost use Rattle.gl_outside.specs.Faults.{Rose, GoesOn};
-ghost use Rattle.spec_texts.specs.Order.{HaveNoForm};
-ghost use Rattle.spec_texts.specs.Answer.{most_bytes};
-ghost use Rattle.gl_app.specs.Answer.{AnswersPlan, AnswersBytes};
-ghost use Rattle.gl_app.specs.Call.{AnswersReplay, AnswersWords, HasRead, status_after, IsUsage};
+ghost use Rattle.std.specs.Prelude.{◌≡◌, ◌≤◌, length, IfOk, IsErrOf};
+ghost use Rattle.gl_outside.specs.Faults.{Rose};
+ghost use Rattle.spec_whole_texts.specs.Words.{HaveNoForm};
+ghost use Rattle.spec_whole_texts.specs.Answer.{most_bytes};
+ghost use Rattle.gl_app.specs.Answer.{AnswersBytes, status_at};
+ghost use Rattle.gl_app.specs.Call.{AnswersRequest, AnswersWords, HasRead, status_after, IsUsage, IsBehindAll};
+ghost use Rattle.gl_app.specs.Words.{request_of};
 
-use crate::answer::{Answer, misfit_text};
+use crate::answer::Answer;
 use crate::reading::{ReadAllFault, read_all};
-use crate::replaying::replay;
-use crate::words::read_words;
-use gl_outside::{Actor, Source};
-use gl_plan::Plan;
-use gl_report::report;
-use gl_text::read_plan;
+use crate::requests::{answer_fault, answer_request};
+use crate::words::{Request, read_words};
+use gl_outside::Source;
+use gl_plan_texts::read_plan;
 use gl_value::Text;
-use gl_world::{BuildFault, RunName, World};
+use gl_world::RunName;
 use std::alloc::{AllocError, Global};
 
 /// The most bytes that a plan may have.
@@ -55,61 +54,41 @@ pub fn answer_words<N: RunName, S: Source>(
 {
     match read_words(alloc, words)? {
         None => Ok(Answer::Usage),
-        Some(order) => answer_replay::<N, S>(alloc, order.as_slice(), source),
+        Some(request) => answer_source::<N, S>(alloc, &request, source),
     }
 }
 
-fn answer_replay<N: RunName, S: Source>(
+#[tactic(auto, using(crate::proofs::CallLaws::read_all_of))]
+fn answer_source<N: RunName, S: Source>(
     alloc: Global,
-    order: &[Actor],
+    request: &Request,
     source: &mut S,
 ) -> Result<Answer, Stop>
-    ensures answer { IfOk result (AnswersReplay order.now (S.remaining source.old)) }
+    ensures answer { IfOk result (AnswersRequest (request_of request.now) (S.remaining source.old)) }
     ensures reading { HasRead (S.remaining source.old) (S.remaining source.new) (status_after result) }
     ensures failed { IsErrOf result Stop.Read → Rose (S.faults source.old) (S.faults source.new) }
     ensures sound { S.never_fails source.old → S.faults source.new ≡ S.faults source.old }
 {
     match read_all(alloc, source, MOST_BYTES) {
-        Ok(bytes) => Ok(answer_bytes::<N>(alloc, bytes.as_slice(), order)?),
+        Ok(bytes) => Ok(answer_bytes::<N>(alloc, bytes.as_slice(), request)?),
         Err(ReadAllFault::TooLarge) => Ok(Answer::TooLarge),
         Err(ReadAllFault::Failed) => Err(Stop::Read),
         Err(ReadAllFault::Memory) => Err(Stop::Memory),
     }
 }
 
+#[tactic(auto, using(crate::proofs::PlanLaws::spelled_plan_formed, crate::proofs::PlanLaws::spelled_plan_few, crate::proofs::RequestLaws::plan_answer, crate::proofs::RequestLaws::fault_answer, crate::proofs::RequestLaws::behind_request, crate::proofs::RequestLaws::behind_fault))]
 fn answer_bytes<N: RunName>(
     alloc: Global,
     bytes: &[u8],
-    order: &[Actor],
+    request: &Request,
 ) -> Result<Answer, AllocError>
     requires { length bytes.now ≤ most_bytes }
-    ensures { IfOk result (AnswersBytes order.now bytes.now) }
+    ensures answer { IfOk result (AnswersBytes (request_of request.now) bytes.now) }
+    ensures status { IfOk result (λ a. IsBehindAll (status_at a)) }
 {
-    match read_plan(alloc, bytes)? {
-        None => Ok(Answer::Unbuilt),
-        Some(plan) => answer_plan::<N>(alloc, &plan, order),
-    }
-}
-
-fn answer_plan<N: RunName>(
-    alloc: Global,
-    plan: &Plan,
-    order: &[Actor],
-) -> Result<Answer, AllocError>
-    ensures { IfOk result (AnswersPlan plan.now order.now) }
-{
-    let mut world = opened::<N>(alloc, plan)?;
-    match replay(&mut world, order)? {
-        Some(bad) => Ok(Answer::Misfit(misfit_text(alloc, bad)?)),
-        None => Ok(Answer::Reported(report(alloc, &world)?)),
-    }
-}
-
-fn opened<N: RunName>(alloc: Global, plan: &Plan) -> Result<World<N>, AllocError>
-    ensures { IfOk result (λ w. w ≡ record { plan = plan.now; order = [] }) }
-{
-    match World::open(alloc, plan) {
-        Ok(world) => Ok(world),
-        Err(BuildFault::Memory) => Err(AllocError),
+    match read_plan(alloc, bytes) {
+        Ok(plan) => answer_request::<N>(alloc, &plan, request),
+        Err(fault) => answer_fault(alloc, &fault),
     }
 }

@@ -4,47 +4,137 @@ use gl_value::Bytes;
 use std::alloc::Global;
 use std::test::Fail;
 
+const CHECK: &[&[u8]] = &[b"check"];
+
+const REPLAY: &[&[u8]] = &[b"replay", b"w0"];
+
 const PLAN: &[u8] = b"glaze 1\nsource s\nwriter\nsection\nadd s 5\n";
+
+const WRITTEN: &[u8] = b"glaze 1\nlimit 16777216\nsource s\nwriter\nsection\nadd s 5\n";
 
 const REPORT: &[u8] = b"order w0\nat 0 w0\nreply 0 ok\nlist s [5]\n";
 
-// A call over the plan, seven bytes at a time, with a source that fails at these calls and a sink of that room.
-fn call(alloc: Global, failing: Calls, room: usize) -> Result<(Status, MemorySink), Fail> {
-    let mut words = Vec::new(alloc);
-    words.push(Text::from_utf8(alloc, b"replay")?)?;
-    words.push(Text::from_utf8(alloc, b"w0")?)?;
+// A call over the bytes, seven of them at a time, with a source that fails at these calls and a sink of that room.
+fn call(
+    alloc: Global,
+    words: &[&[u8]],
+    plan: &[u8],
+    failing: Calls,
+    room: usize,
+) -> Result<(Status, MemorySink), Fail> {
+    let mut texts = Vec::new(alloc);
+    for word in words {
+        texts.push(Text::from_utf8(alloc, word)?)?;
+    }
     let mut bytes = Bytes::new(alloc);
-    bytes.push_all(PLAN)?;
+    bytes.push_all(plan)?;
     let mut source = MemorySource::new(bytes, 7, failing);
     let mut sink = MemorySink::new(alloc, room)?;
-    let status = plain(alloc, words.as_slice(), &mut source, &mut sink);
+    let status = plain(alloc, texts.as_slice(), &mut source, &mut sink);
     Ok((status, sink))
 }
 
-#[test]
-fn stops_where_a_sink_or_a_source_fails(rt: HostRuntime) -> Result<(), Fail> {
-    let alloc = rt.alloc();
-    for room in 0..REPORT.len() {
-        let (status, sink) = call(alloc, Calls::new(alloc), room)?;
-        assert_eq!(rt; status, Status::Write);
-        assert_eq!(rt; Some(sink.bytes()), REPORT.get(..room));
+// Whether a call over the plan gives that text, where all goes well, and stops where a sink or a source fails.
+fn stops_rightly(alloc: Global, words: &[&[u8]], text: &[u8]) -> Result<bool, Fail> {
+    for room in 0..text.len() {
+        let (status, sink) = call(alloc, words, PLAN, Calls::new(alloc), room)?;
+        if status != Status::Write || Some(sink.bytes()) != text.get(..room) {
+            return Ok(false);
+        }
     }
-    let (status, sink) = call(alloc, Calls::new(alloc), REPORT.len())?;
-    assert_eq!(rt; status, Status::Done);
-    assert_eq!(rt; sink.bytes(), REPORT);
+    let (status, sink) = call(alloc, words, PLAN, Calls::new(alloc), text.len())?;
+    if status != Status::Done || sink.bytes() != text {
+        return Ok(false);
+    }
 
     // The last call finds that no byte is left.
     let calls = PLAN.len().div_ceil(7) as u64 + 1;
     for failing in 0..calls {
         let mut numbers = Calls::new(alloc);
         numbers.push(failing)?;
-        let (status, sink) = call(alloc, numbers, REPORT.len())?;
-        assert_eq!(rt; status, Status::Read);
-        assert!(rt; sink.bytes().is_empty());
+        let (status, sink) = call(alloc, words, PLAN, numbers, text.len())?;
+        if status != Status::Read || !sink.bytes().is_empty() {
+            return Ok(false);
+        }
     }
     let mut behind = Calls::new(alloc);
     behind.push(calls)?;
-    let (status, _sink) = call(alloc, behind, REPORT.len())?;
-    assert_eq!(rt; status, Status::Done);
+    let (status, _sink) = call(alloc, words, PLAN, behind, text.len())?;
+    Ok(status == Status::Done)
+}
+
+#[test]
+fn a_check_stops_where_a_sink_or_a_source_fails(rt: HostRuntime) -> Result<(), Fail> {
+    assert!(rt; stops_rightly(rt.alloc(), CHECK, WRITTEN)?);
+    Ok(())
+}
+
+#[test]
+fn a_replay_stops_where_a_sink_or_a_source_fails(rt: HostRuntime) -> Result<(), Fail> {
+    assert!(rt; stops_rightly(rt.alloc(), REPLAY, REPORT)?);
+    Ok(())
+}
+
+/// Bytes, and the status and the text to which their check comes.
+const CHECKS: [(&[u8], Status, &[u8]); 6] = [
+    (b"glaze 1", Status::Done, b"glaze 1\nlimit 16777216\n"),
+    (
+        b"glaze 1\nsource s\ncsv s\n01,-5,\"a,b\"\nend csv\n",
+        Status::Done,
+        b"glaze 1\nlimit 16777216\nsource s\nrow s [\"01\",-5,\"a,b\"]\n",
+    ),
+    (
+        b"glaze 1\nlimit 1\nsource s\nrow s 1\nrow s 2\n",
+        Status::Done,
+        b"glaze 1\nlimit 1\nsource s\nrow s 1\nrow s 2\n",
+    ),
+    (b"", Status::Plan, b"plan: line 1 column 1: header\n"),
+    (
+        b"glaze 1\nsource s\nsource s",
+        Status::Plan,
+        b"plan: line 3 column 8: taken\n",
+    ),
+    (
+        b"glaze 1\nfilter a b . = 5\nfilter b a . = 5\n",
+        Status::Plan,
+        b"plan: cycle a b\n",
+    ),
+];
+
+#[test]
+fn checks_say_what_stands_in_a_text(rt: HostRuntime) -> Result<(), Fail> {
+    let alloc = rt.alloc();
+    for (plan, status, text) in CHECKS {
+        let (given, sink) = call(alloc, CHECK, plan, Calls::new(alloc), 100)?;
+        assert_eq!(rt; given, status);
+        assert_eq!(rt; sink.bytes(), text);
+    }
+    Ok(())
+}
+
+/// Bytes, and the status and the text to which the replay of `w0` comes.
+const REPLAYS: [(&[u8], Status, &[u8]); 4] = [
+    (b"", Status::Plan, b"plan: line 1 column 1: header\n"),
+    (
+        b"glaze 1\nsource s\nfreezable f s\n",
+        Status::Plan,
+        b"plan: unbuilt\n",
+    ),
+    (
+        b"glaze 1\nlimit 1\nsource s\nrow s 1\nrow s 2\n",
+        Status::TooLong,
+        b"too-long s 2\n",
+    ),
+    (b"glaze 1", Status::Order, b"order: place 0: no-writer\n"),
+];
+
+#[test]
+fn replays_say_why_there_is_no_report(rt: HostRuntime) -> Result<(), Fail> {
+    let alloc = rt.alloc();
+    for (plan, status, text) in REPLAYS {
+        let (given, sink) = call(alloc, REPLAY, plan, Calls::new(alloc), 100)?;
+        assert_eq!(rt; given, status);
+        assert_eq!(rt; sink.bytes(), text);
+    }
     Ok(())
 }

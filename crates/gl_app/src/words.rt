@@ -1,29 +1,50 @@
 //! The words of a call.
 
 ghost use Rattle.std.specs.Prelude.{◌≡◌, [], ◌∷◌, IfOk, IfSome, IfNone, option_map};
-ghost use Rattle.spec_texts.specs.Order.{AsksReplay, HaveNoForm};
-ghost use Rattle.gl_app.specs.Words.{actor_in, pieces, actors_in, order_in, asked, entries_of};
+ghost use Rattle.spec_whole_texts.specs.Words.{Asks, HaveNoForm, replay};
+ghost use Rattle.gl_app.specs.Words.{actor_in, pieces, actors_in, order_in, asked, entries_of, request_of};
 
 use gl_outside::Actor;
 use gl_text::{cut, index};
 use gl_value::Text;
 use std::alloc::{AllocError, Global};
 
-#[tactic(auto, using(crate::proofs::WordLaws::asks_what_is_asked, crate::proofs::WordLaws::no_form_without))]
-/// The order whose replay the words ask for, where they have that form.
-pub fn read_words(alloc: Global, words: &[Text]) -> Result<Option<Vec<Actor>>, AllocError>
-    ensures found { IfOk result (λ o. IfSome o (λ order. AsksReplay words.now order.items)) }
-    ensures none { IfOk result (λ o. IfNone o (HaveNoForm words.now)) }
-{
-    asked_order(alloc, words)
+/// What the words of a call ask for.
+#[derive(Drop)]
+pub enum Request {
+    /// The one text of a plan.
+    Check,
+    /// The report of a plan in this order.
+    Replay(Vec<Actor>),
 }
 
-fn asked_order(alloc: Global, words: &[Text]) -> Result<Option<Vec<Actor>>, AllocError>
-    ensures { IfOk result (λ o. option_map entries_of o ≡ asked words.now) }
+#[tactic(auto, using(crate::proofs::WordLaws::asks_what_is_asked, crate::proofs::WordLaws::no_form_without))]
+/// The request that the words ask for, where they have its form.
+pub fn read_words(alloc: Global, words: &[Text]) -> Result<Option<Request>, AllocError>
+    ensures found { IfOk result (λ o. IfSome o (λ request. Asks words.now (request_of request))) }
+    ensures none { IfOk result (λ o. IfNone o (HaveNoForm words.now)) }
+{
+    asked_request(alloc, words)
+}
+
+fn asked_request(alloc: Global, words: &[Text]) -> Result<Option<Request>, AllocError>
+    ensures { IfOk result (λ o. option_map request_of o ≡ asked words.now) }
 {
     match words {
+        [keyword] => Ok(alone(keyword.bytes())),
         [keyword, order] => behind_keyword(alloc, keyword.bytes(), order.bytes()),
         _ => Ok(None),
+    }
+}
+
+// What a word asks for alone.
+fn alone(keyword: &[u8]) -> Option<Request>
+    ensures { option_map request_of result ≡ asked (keyword.now ∷ []) }
+{
+    if keyword == b"check".as_slice() {
+        Some(Request::Check)
+    } else {
+        None
     }
 }
 
@@ -32,13 +53,22 @@ fn behind_keyword(
     alloc: Global,
     keyword: &[u8],
     order: &[u8],
-) -> Result<Option<Vec<Actor>>, AllocError>
-    ensures { IfOk result (λ o. option_map entries_of o ≡ asked (keyword.now ∷ order.now ∷ [])) }
+) -> Result<Option<Request>, AllocError>
+    ensures { IfOk result (λ o. option_map request_of o ≡ asked (keyword.now ∷ order.now ∷ [])) }
 {
     if keyword == b"replay".as_slice() {
-        read_order(alloc, order)
+        read_replay(alloc, order)
     } else {
         Ok(None)
+    }
+}
+
+fn read_replay(alloc: Global, bytes: &[u8]) -> Result<Option<Request>, AllocError>
+    ensures { IfOk result (λ o. option_map request_of o ≡ option_map replay (order_in bytes.now)) }
+{
+    match read_order(alloc, bytes)? {
+        Some(order) => Ok(Some(Request::Replay(order))),
+        None => Ok(None),
     }
 }
 

@@ -1,24 +1,18 @@
 -- Writing the lines of entries and of lists one after another.
-use Rattle.std.proofs.Common.{◌≡◌, ◌≢◌, ◌∙◌, ℕ, zero, suc, ◌+◌, ◌<◌, ◌++◌, List, [], ◌∷◌, length, get_or, drop, ap, sym, arith, append_assoc, append-nil, eq-eqb, refl, subst}
-use Rattle.gl_outside.specs.declared.gate.Actor.{Actor}
-use Rattle.gl_types.specs.declared.list.ListDecl.{ListDecl}
-use Rattle.gl_types.specs.declared.command.Reply.{Reply}
+use Rattle.std.proofs.Common.{◌≡◌, ◌∙◌, ℕ, zero, suc, ◌+◌, ◌-◌, ◌<◌, ◌++◌, List, [], ◌∷◌, length, get_or, take, drop, ap, sym, arith, append_assoc, eq-eqb, refl, subst}
 use Rattle.std.specs.Prelude.{unwrap_or, slice_get}
-use Rattle.spec_runs.specs.Shown.{Table, shows_in}
-use Rattle.std.specs.Prelude.{Bool, true, false, codes}
-use Rattle.std.proofs.Common.{◌-◌, take}
 use Rattle.std.proofs.lemmas.List.{take_all, length-drop}
-use Rattle.spec_lists.specs.Changes.{Change}
-use Rattle.spec_texts.specs.Report.{change_text, other_changes, changes_text}
-use Rattle.gl_report.specs.Told.{separator, changes_left}
-use Rattle.std.proofs.lemmas.Bool.{ne_eqb}
-use Rattle.gl_types.specs.declared.list.ListenerDecl.{ListenerDecl}
-use Rattle.spec_runs.specs.Telling.{Telling}
-use Rattle.spec_texts.specs.Report.{told_lines, told_first, told_later, entry_lines, list_lines}
-use Rattle.gl_world.specs.declared.tell.Telling.{Telling as Told}
+use Rattle.gl_outside.specs.declared.gate.Actor.{Actor}
+use Rattle.gl_lines.specs.declared.plan.ListDecl.{ListDecl}
+use Rattle.gl_lines.specs.declared.plan.ListenerDecl.{ListenerDecl}
+use Rattle.gl_lines.specs.declared.reply.Reply.{Reply}
+use Rattle.spec_plans.specs.Plan.{Plan}
+use Rattle.spec_states.specs.Shown.{Table, shows_in}
+use Rattle.spec_whole_runs.specs.Telling.{Telling}
+use Rattle.spec_whole_texts.specs.Report.{told_lines, told_first, told_later, entry_lines, list_lines}
+use Rattle.gl_world.specs.declared.telling.Telling.{Telling as Told}
 use Rattle.gl_world.specs.Told.{telling_data, tellings_of}
-use Rattle.gl_report.specs.Lines.{spelled_entry, list_line}
-use Rattle.gl_report.specs.Told.{told_line}
+use Rattle.gl_report.specs.Lines.{spelled_entry, list_line, told_line}
 
 list_step : (lists : List ListDecl) (shown : Table) (k : ℕ) (d : ListDecl) → k < length lists → length lists ≡ length shown → d ≡ get_or lists k d → list_lines (drop k lists) (drop k shown) ≡ list_line d.name (shows_in shown k) ++ list_lines (drop (suc k) lists) (drop (suc k) shown)
 list_step [] shown k d within same is = absurd (omega arith)
@@ -33,24 +27,24 @@ list_more out before lists shown k d within same is whole =
     let next : list_lines (drop k lists) (drop k shown) ≡ list_line d.name (shows_in shown k) ++ list_lines (drop (k + 1) lists) (drop (k + 1) shown) = rw e (list_step lists shown k d within same is) in
     append_assoc out (list_line d.name (shows_in shown k)) (list_lines (drop (k + 1) lists) (drop (k + 1) shown)) ∙ ap (λ l. out ++ l) (sym next) ∙ whole
 
-entry_step : (listeners : List ListenerDecl) (told : List Telling) (order : List Actor) (replies : List (List Reply)) (from k : ℕ) (a : Actor) → k < length order → length replies ≡ length order → a ≡ get_or order k a
-    → entry_lines listeners from (drop k order) (drop k replies) told ≡ spelled_entry from a (unwrap_or (slice_get replies k) []) ++ told_lines listeners (told_first from told) ++ entry_lines listeners (from + 1) (drop (suc k) order) (drop (suc k) replies) (told_later from told)
-entry_step listeners told [] replies from k a within same is = absurd (omega arith)
-entry_step listeners told (b ∷ order) [] from k a within same is = absurd (omega arith)
-entry_step listeners told (b ∷ order) (rs ∷ replies) from zero a within same is = ap (λ x. spelled_entry from x rs ++ told_lines listeners (told_first from told) ++ entry_lines listeners (from + 1) order replies (told_later from told)) (sym is)
-entry_step listeners told (b ∷ order) (rs ∷ replies) from (suc k) a within same is = entry_step listeners told order replies from k a (omega arith) (omega arith) is
+entry_step : (p : Plan) (told : List Telling) (order : List Actor) (replies : List (List Reply)) (from k : ℕ) (a : Actor) → k < length order → length replies ≡ length order → a ≡ get_or order k a
+    → entry_lines p from (drop k order) (drop k replies) told ≡ spelled_entry p.lists from a (unwrap_or (slice_get replies k) []) ++ told_lines p.listeners (told_first from told) ++ entry_lines p (from + 1) (drop (suc k) order) (drop (suc k) replies) (told_later from told)
+entry_step p told [] replies from k a within same is = absurd (omega arith)
+entry_step p told (b ∷ order) [] from k a within same is = absurd (omega arith)
+entry_step p told (b ∷ order) (rs ∷ replies) from zero a within same is = ap (λ x. spelled_entry p.lists from x rs ++ told_lines p.listeners (told_first from told) ++ entry_lines p (from + 1) order replies (told_later from told)) (sym is)
+entry_step p told (b ∷ order) (rs ∷ replies) from (suc k) a within same is = entry_step p told order replies from k a (omega arith) (omega arith) is
 
 -- one entry more is written, of those from a place on, with its tellings
-pub entry_more : (listeners : List ListenerDecl) (told : List Telling) (out before : List ℕ) (order : List Actor) (replies : List (List Reply)) (k : ℕ) (a : Actor) → k < length order → length replies ≡ length order → a ≡ get_or order k a
-    → out ++ entry_lines listeners k (drop k order) (drop k replies) told ≡ before
-    → (out ++ spelled_entry k a (unwrap_or (slice_get replies k) []) ++ told_lines listeners (told_first k told)) ++ entry_lines listeners (k + 1) (drop (k + 1) order) (drop (k + 1) replies) (told_later k told) ≡ before
-entry_more listeners told out before order replies k a within same is whole =
+pub entry_more : (p : Plan) (told : List Telling) (out before : List ℕ) (order : List Actor) (replies : List (List Reply)) (k : ℕ) (a : Actor) → k < length order → length replies ≡ length order → a ≡ get_or order k a
+    → out ++ entry_lines p k (drop k order) (drop k replies) told ≡ before
+    → (out ++ spelled_entry p.lists k a (unwrap_or (slice_get replies k) []) ++ told_lines p.listeners (told_first k told)) ++ entry_lines p (k + 1) (drop (k + 1) order) (drop (k + 1) replies) (told_later k told) ≡ before
+entry_more p told out before order replies k a within same is whole =
     let e : k + 1 ≡ suc k = omega arith in
-    let entry : List ℕ = spelled_entry k a (unwrap_or (slice_get replies k) []) in
-    let lines : List ℕ = told_lines listeners (told_first k told) in
-    let rest : List ℕ = entry_lines listeners (k + 1) (drop (k + 1) order) (drop (k + 1) replies) (told_later k told) in
-    let P : ℕ → Type 0 = λ n. entry_lines listeners k (drop k order) (drop k replies) told ≡ entry ++ lines ++ entry_lines listeners (k + 1) (drop n order) (drop n replies) (told_later k told) in
-    let next : entry_lines listeners k (drop k order) (drop k replies) told ≡ entry ++ lines ++ rest = subst P (sym e) (entry_step listeners told order replies k k a within same is) in
+    let entry : List ℕ = spelled_entry p.lists k a (unwrap_or (slice_get replies k) []) in
+    let lines : List ℕ = told_lines p.listeners (told_first k told) in
+    let rest : List ℕ = entry_lines p (k + 1) (drop (k + 1) order) (drop (k + 1) replies) (told_later k told) in
+    let P : ℕ → Type 0 = λ n. entry_lines p k (drop k order) (drop k replies) told ≡ entry ++ lines ++ entry_lines p (k + 1) (drop n order) (drop n replies) (told_later k told) in
+    let next : entry_lines p k (drop k order) (drop k replies) told ≡ entry ++ lines ++ rest = subst P (sym e) (entry_step p told order replies k k a within same is) in
     ap (λ l. l ++ rest) (append_assoc out entry lines) ∙ append_assoc out (entry ++ lines) rest ∙ ap (λ l. out ++ l) (sym next) ∙ whole
 
 -- the tellings of a place, one after another
@@ -74,16 +68,6 @@ later_more ts k place t total within is here whole =
     let step : told_later place (tellings_of (drop k ts)) ≡ told_later place (tellings_of (drop (k + 1) ts)) = ap (λ us. told_later place (tellings_of us)) (drop_telling ts k t within is) ∙ rw (eq-eqb t.place place here) refl in
     sym step ∙ whole
 
--- where a telling of another place stands, none of this place is left
-pub none_first : (listeners : List ListenerDecl) (out before : List ℕ) (ts : List Told) (k place : ℕ) (t : Told) → k < length ts → t ≡ get_or ts k t → t.place ≢ place
-    → out ++ told_lines listeners (told_first place (tellings_of (drop k ts))) ≡ before → out ≡ before
-none_first listeners out before ts k place t within is other whole =
-    sym (append-nil out) ∙ ap (λ l. out ++ l) (sym (ap (λ us. told_lines listeners (told_first place (tellings_of us))) (drop_telling ts k t within is) ∙ rw (ne_eqb t.place place other) refl)) ∙ whole
-
-pub all_later : (ts : List Told) (k place : ℕ) (t : Told) (total : List Telling) → k < length ts → t ≡ get_or ts k t → t.place ≢ place → told_later place (tellings_of (drop k ts)) ≡ total → tellings_of (drop k ts) ≡ total
-all_later ts k place t total within is other whole =
-    sym (ap (λ us. told_later place (tellings_of us)) (drop_telling ts k t within is) ∙ rw (ne_eqb t.place place other) (ap tellings_of (sym (drop_telling ts k t within is)))) ∙ whole
-
 -- four pieces written one after another
 pub four_written : (out a b c d : List ℕ) → (((out ++ a) ++ b) ++ c) ++ d ≡ out ++ (((a ++ b) ++ c) ++ d)
 four_written out a b c d = simp append_assoc
@@ -91,10 +75,3 @@ four_written out a b c d = simp append_assoc
 -- what is taken of a list behind a place, as far as its end, is all that is there
 pub take_rest : {X : Type 0} (xs : List X) (n : ℕ) → take (length xs - n) (drop n xs) ≡ drop n xs
 take_rest xs n = take_all (length xs - n) (drop n xs) (omega (arith, length-drop n xs))
-
--- one change more is written, of those that are left
-pub change_more : (out before : List ℕ) (first : Bool) (cs : List Change) (c : Change) (rest : List Change) → cs ≡ c ∷ rest → out ++ changes_left first cs ≡ before → ((out ++ separator first) ++ change_text c) ++ changes_left false rest ≡ before
-change_more out before true cs c rest e whole =
-    ap (λ o. (o ++ change_text c) ++ other_changes rest) (append-nil out) ∙ append_assoc out (change_text c) (other_changes rest) ∙ ap (λ ds. out ++ changes_text ds) (sym e) ∙ whole
-change_more out before false cs c rest e whole =
-    ap (λ o. o ++ other_changes rest) (append_assoc out (codes "; ") (change_text c)) ∙ append_assoc out (codes "; " ++ change_text c) (other_changes rest) ∙ ap (λ ds. out ++ other_changes ds) (sym e) ∙ whole

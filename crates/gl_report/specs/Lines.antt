@@ -1,15 +1,25 @@
--- The lines of one entry, and that of one list.
+-- The lines of one entry, of one telling, and of one list.
 use Rattle.std.specs.Prelude.{ℕ, List, ◌++◌, codes, decimal}
 use Rattle.spec_value.specs.Tree.{Tree}
 use Rattle.gl_outside.specs.declared.gate.Actor.{Actor}
-use Rattle.gl_types.specs.declared.command.Reply.{Reply}
+use Rattle.gl_lines.specs.declared.plan.ListDecl.{ListDecl}
+use Rattle.gl_lines.specs.declared.plan.ListenerDecl.{ListenerDecl}
+use Rattle.gl_lines.specs.declared.reply.Reply.{Reply}
 use Rattle.spec_texts.specs.Order.{spelled_actor}
 use Rattle.spec_texts.specs.Value.{spelled_list}
-use Rattle.spec_texts.specs.Report.{reply_lines, line_feed}
+use Rattle.spec_texts.specs.Report.{line_feed, event_text}
+use Rattle.spec_whole_runs.specs.Telling.{Telling}
+use Rattle.spec_whole_texts.specs.Report.{reply_lines, listener_name}
 
--- the entry at a place
-abbrev pub spelled_entry : ℕ → Actor → List Reply → List ℕ
-spelled_entry place actor replies = codes "at " ++ decimal place ++ codes " " ++ spelled_actor actor ++ line_feed ++ reply_lines 0 replies
+-- the entry at a place, with its replies, among these lists
+abbrev pub spelled_entry : List ListDecl → ℕ → Actor → List Reply → List ℕ
+spelled_entry lists place actor replies =
+    codes "at " ++ decimal place ++ codes " " ++ spelled_actor actor ++ line_feed ++ reply_lines lists 0 replies
+
+-- the line of one telling
+abbrev pub told_line : List ListenerDecl → Telling → List ℕ
+told_line listeners t =
+    codes "told " ++ listener_name listeners t.listener ++ codes " " ++ event_text t.delta ++ line_feed
 
 -- the list of that name, which shows these values
 abbrev pub list_line : List ℕ → List Tree → List ℕ

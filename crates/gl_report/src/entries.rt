@@ -1,67 +1,33 @@
-//! The order of a world's entries, and what each was answered.
+//! What each entry was answered and told.
 
 ghost use Rattle.std.specs.Prelude.{◌≡◌, ◌≤◌, ◌++◌, drop, length, IfOk, OnOk};
-ghost use Rattle.spec_runs.specs.Run.{run};
-ghost use Rattle.spec_texts.specs.Order.{spelled_actor, spelled_rest, spelled_order};
-ghost use Rattle.spec_texts.specs.Report.{reply_text, reply_lines, listener_name, told_lines, told_first, told_later, entry_lines};
+ghost use Rattle.spec_whole_runs.specs.Run.{run};
+ghost use Rattle.spec_whole_texts.specs.Report.{listener_name, told_lines, told_first, told_later, entry_lines};
 ghost use Rattle.gl_world.specs.Told.{telling_data, tellings_of};
-ghost use Rattle.gl_report.specs.Lines.{spelled_entry};
-ghost use Rattle.gl_report.specs.Told.{told_line};
+ghost use Rattle.gl_report.specs.Lines.{spelled_entry, told_line};
 
-use crate::event::event_text;
-use gl_plan::ListenerDecl;
+use crate::event::add_event;
+use crate::order::write_actor;
+use crate::replies::write_replies;
+use gl_lines::{ListDecl, ListenerDecl};
 use gl_syntax::add_number;
 use gl_value::{Bytes, Memory};
 use gl_world::{Actor, Reply, RunName, Telling, World};
 
-/// Adds an order as it is spelled in the words of a call.
-pub fn write_order(order: &[Actor], out: &mut Bytes) -> Result<(), Memory>
-    ensures { OnOk result (out.new ≡ out.old ++ spelled_order order.now) }
-{
-    match order.split_first() {
-        None => out.push_all(b"-"),
-        Some((first, others)) => {
-            write_actor(*first, out)?;
-            write_others(others, out)
-        }
-    }
-}
-
-// The actors behind the first one.
-fn write_others(others: &[Actor], out: &mut Bytes) -> Result<(), Memory>
-    ensures { OnOk result (out.new ≡ out.old ++ spelled_rest others.now) }
-{
-    for actor in others {
-        out.push_all(b",")?;
-        write_actor(*actor, out)?;
-    }
-    Ok(())
-}
-
-fn write_actor(actor: Actor, out: &mut Bytes) -> Result<(), Memory>
-    ensures { OnOk result (out.new ≡ out.old ++ spelled_actor actor) }
-{
-    match actor {
-        Actor::Writer(writer) => {
-            out.push_all(b"w")?;
-            add_number(u64::from(writer), out)
-        }
-        Actor::Proxy(proxy) => {
-            out.push_all(b"p")?;
-            add_number(u64::from(proxy), out)
-        }
-    }
-}
-
 /// Adds each entry of a world with its replies and its tellings.
 pub fn write_entries<N: RunName>(world: &World<N>, out: &mut Bytes) -> Result<(), Memory>
-    ensures { OnOk result (out.new ≡ out.old ++ entry_lines world.now.plan.listeners 0 world.now.order (run world.now.plan world.now.order).replies (run world.now.plan world.now.order).told) }
+    ensures { OnOk result
+        (out.new ≡ out.old
+        ++ entry_lines world.now.plan 0 world.now.order (run world.now.plan world.now.order).replies
+        (run world.now.plan world.now.order).told) }
 {
+    let plan = world.plan();
     let order = world.order();
     let mut told = world.told();
     for (place, actor) in order.iter().enumerate() {
-        write_entry(place as u64, *actor, world.replies(place as u64), out)?;
-        let count = write_told(world.plan().listeners(), place as u64, told, out)?;
+        let replies = world.replies(place as u64);
+        write_entry(plan.lists(), place as u64, *actor, replies, out)?;
+        let count = write_told(plan.listeners(), place as u64, told, out)?;
         told = behind(told, count);
     }
     Ok(())
@@ -83,9 +49,11 @@ fn write_told(
     told: &[Telling],
     out: &mut Bytes,
 ) -> Result<usize, Memory>
-    ensures text { OnOk result (out.new ≡ out.old ++ told_lines listeners.now (told_first place (tellings_of told.now))) }
+    ensures text { OnOk result
+        (out.new ≡ out.old ++ told_lines listeners.now (told_first place (tellings_of told.now))) }
     ensures within { IfOk result (λ count. count ≤ length told.now) }
-    ensures left { IfOk result (λ count. tellings_of (drop count told.now) ≡ told_later place (tellings_of told.now)) }
+    ensures left { IfOk result
+        (λ count. tellings_of (drop count told.now) ≡ told_later place (tellings_of told.now)) }
 {
     for (count, telling) in told.iter().enumerate() {
         if telling.place != place {
@@ -106,7 +74,7 @@ fn write_telling(
     out.push_all(b"told ")?;
     write_name(listeners, telling.listener, out)?;
     out.push_all(b" ")?;
-    event_text(&telling.event, out)?;
+    add_event(&telling.event, out)?;
     out.push_all(b"\n")
 }
 
@@ -119,45 +87,19 @@ fn write_name(listeners: &[ListenerDecl], listener: u32, out: &mut Bytes) -> Res
     }
 }
 
-fn write_entry(place: u64, actor: Actor, replies: &[Reply], out: &mut Bytes) -> Result<(), Memory>
-    ensures { OnOk result (out.new ≡ out.old ++ spelled_entry place actor replies.now) }
+fn write_entry(
+    lists: &[ListDecl],
+    place: u64,
+    actor: Actor,
+    replies: &[Reply],
+    out: &mut Bytes,
+) -> Result<(), Memory>
+    ensures { OnOk result (out.new ≡ out.old ++ spelled_entry lists.now place actor replies.now) }
 {
     out.push_all(b"at ")?;
     add_number(place, out)?;
     out.push_all(b" ")?;
     write_actor(actor, out)?;
     out.push_all(b"\n")?;
-    write_replies(replies, out)
-}
-
-fn write_replies(replies: &[Reply], out: &mut Bytes) -> Result<(), Memory>
-    ensures { OnOk result (out.new ≡ out.old ++ reply_lines 0 replies.now) }
-{
-    for (number, reply) in replies.iter().enumerate() {
-        out.push_all(b"reply ")?;
-        add_number(number as u64, out)?;
-        out.push_all(b" ")?;
-        write_reply(*reply, out)?;
-        out.push_all(b"\n")?;
-    }
-    Ok(())
-}
-
-fn write_reply(reply: Reply, out: &mut Bytes) -> Result<(), Memory>
-    ensures { OnOk result (out.new ≡ out.old ++ reply_text reply) }
-{
-    match reply {
-        Reply::Done => out.push_all(b"ok"),
-        Reply::OutOfRange { index, len } => write_out_of_range(index, len, out),
-    }
-}
-
-fn write_out_of_range(index: u64, len: u64, out: &mut Bytes) -> Result<(), Memory>
-    ensures { OnOk result (out.new ≡ out.old ++ reply_text (Reply.OutOfRange index len)) }
-{
-    out.push_all(b"out-of-range ")?;
-    add_number(index, out)?;
-    out.push_all(b" ")?;
-    add_number(len, out)?;
-    Ok(())
+    write_replies(lists, replies, out)
 }

@@ -1,6 +1,6 @@
 //! Events and tellings.
 
-ghost use Rattle.std.specs.Prelude.{◌≡◌, ◌++◌, OnOk, codes, decimal};
+ghost use Rattle.std.specs.Prelude.{◌≡◌, ◌++◌, OnOk, OnErr, codes, decimal};
 ghost use Rattle.spec_texts.specs.Value.{spelled_value};
 ghost use Rattle.spec_texts.specs.Report.{change_text, event_text};
 ghost use Rattle.gl_event.specs.Changes.{change_ref};
@@ -9,9 +9,21 @@ ghost use Rattle.gl_report.specs.Told.{separator};
 use gl_event::{Change, Event};
 use gl_syntax::{add_number, add_value};
 use gl_value::{Bytes, Memory, Value};
+use std::alloc::Global;
 
-/// Adds the text of an event: its changes, semicolons between them. It costs the same however many elements are kept.
-pub fn event_text(event: &Event, out: &mut Bytes) -> Result<(), Memory>
+/// Adds the text of an event: its changes, semicolons between them; where memory runs out the bytes are as before. It
+/// takes memory for the text beside them while it writes, and costs the same however many elements are kept.
+pub fn event_text(alloc: Global, event: &Event, out: &mut Bytes) -> Result<(), Memory>
+    ensures ok { OnOk result (out.new ≡ out.old ++ event_text event.now.pieces) }
+    ensures err { OnErr result (out.new ≡ out.old) }
+{
+    let mut text = Bytes::new(alloc);
+    add_event(event, &mut text)?;
+    out.push_all(text.as_slice())
+}
+
+/// Adds the same text. Where memory runs out part of it may be added.
+pub(crate) fn add_event(event: &Event, out: &mut Bytes) -> Result<(), Memory>
     ensures { OnOk result (out.new ≡ out.old ++ event_text event.now.pieces) }
 {
     let mut walk = event.walk();

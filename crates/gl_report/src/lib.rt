@@ -1,12 +1,14 @@
-//! The report of a world: the order of its entries, what each was answered and told, and what the lists show at the end;
+//! The report of a world: the order of its entries, what each was answered and told, and what its lists show at last;
 //! and the text of an event.
 //! It is written from the world alone, through its public calls, into one run of bytes.
-//! What a report says is defined in `spec_texts`; nothing here is visible but the two calls.
+//! What a report says is defined in `spec_whole_texts`.
 #![tactic(auto)]
 
 mod entries;
 mod event;
 mod lists;
+mod order;
+mod replies;
 mod text;
 
 pub use event::event_text;

@@ -1,10 +1,10 @@
 //! What the lists of a world show.
 
 ghost use Rattle.std.specs.Prelude.{◌≡◌, ◌<◌, ◌++◌, length, OnOk};
-ghost use Rattle.spec_runs.specs.Run.{run, shown_after};
-ghost use Rattle.spec_runs.specs.Shown.{table_of};
+ghost use Rattle.spec_states.specs.Shown.{table_of};
+ghost use Rattle.spec_whole_runs.specs.Run.{run, shown_after};
 ghost use Rattle.spec_texts.specs.Value.{spelled_list};
-ghost use Rattle.spec_texts.specs.Report.{list_lines};
+ghost use Rattle.spec_whole_texts.specs.Report.{list_lines};
 ghost use Rattle.gl_report.specs.Lines.{list_line};
 
 use gl_syntax::{add_comma, add_value};
@@ -13,7 +13,9 @@ use gl_world::{RunName, World};
 
 /// Adds a line for each list of a world, in number order.
 pub fn write_lists<N: RunName>(world: &World<N>, out: &mut Bytes) -> Result<(), Memory>
-    ensures { OnOk result (out.new ≡ out.old ++ list_lines world.now.plan.lists (table_of (run world.now.plan world.now.order).state)) }
+    ensures { OnOk result
+        (out.new ≡ out.old
+        ++ list_lines world.now.plan.lists (table_of (run world.now.plan world.now.order).state)) }
 {
     let lists = world.plan().lists();
     for (list, decl) in lists.iter().enumerate() {
@@ -30,7 +32,8 @@ fn write_list<N: RunName>(
     out: &mut Bytes,
 ) -> Result<(), Memory>
     requires { list < length world.now.plan.lists }
-    ensures { OnOk result (out.new ≡ out.old ++ list_line name.now (shown_after world.now.plan world.now.order list)) }
+    ensures { OnOk result
+        (out.new ≡ out.old ++ list_line name.now (shown_after world.now.plan world.now.order list)) }
 {
     out.push_all(b"list ")?;
     out.push_all(name)?;
@@ -43,7 +46,8 @@ fn write_list<N: RunName>(
 // What a list shows, as a list value.
 fn write_shown<N: RunName>(world: &World<N>, list: u32, out: &mut Bytes) -> Result<(), Memory>
     requires { list < length world.now.plan.lists }
-    ensures { OnOk result (out.new ≡ out.old ++ spelled_list (shown_after world.now.plan world.now.order list)) }
+    ensures { OnOk result
+        (out.new ≡ out.old ++ spelled_list (shown_after world.now.plan world.now.order list)) }
 {
     out.push_all(b"[")?;
     for place in 0..world.len(list) {

@@ -1,8 +1,4 @@
 pub mod CutLaws
 pub mod NumberLaws
-pub mod LineLaws
-pub mod LineAgain
-pub mod TextLaws
-pub mod Names
+pub mod DigitLaws
 pub mod BlockLaws
-pub mod Growth

@@ -1,5 +1,10 @@
-pub mod Nodes
-pub mod Changes
-pub mod Drafts
+pub mod Suiting
+pub mod Backs
+pub mod Showing
+pub mod Edges
+pub mod Joining
+pub mod Commands
+pub mod Sections
 pub mod Tellings
 pub mod Entries
+pub mod Built

@@ -1,49 +1,132 @@
 -- What listeners are told, one after another.
-use Rattle.std.proofs.Common.{◌≡◌, ◌≢◌, ◌∙◌, ℕ, zero, suc, ◌+◌, ◌<◌, ◌≤◌, ◌++◌, List, [], ◌∷◌, length, drop, flat_map, get_or, refl, ap, sym, arith, subst, append_assoc, append-nil, eq-eqb}
-use Rattle.std.specs.Prelude.{Some, slice_get}
-use Rattle.std.specs.List.{AllByRecursion, range_with_len}
+use Rattle.std.proofs.Common.{◌≡◌, ◌≢◌, ◌∙◌, ℕ, zero, suc, ◌<◌, ◌++◌, List, [], ◌∷◌, length, get_or, refl, ap, sym, arith, subst, append-nil, eq-eqb}
+use Rattle.std.specs.Prelude.{Option, Some, None, slice_get, slice_index_or}
+use Rattle.std.specs.List.{AllByRecursion}
 use Rattle.std.proofs.lemmas.Bool.{ne_eqb}
 use Rattle.std.proofs.lemmas.List.{map-append}
-use Rattle.spec_lists.specs.Piece.{Piece}
+use Rattle.spec_lists.specs.Piece.{Piece, identity}
 use Rattle.spec_lists.specs.Changes.{changed_len}
-use Rattle.gl_types.specs.declared.list.ListenerDecl.{ListenerDecl}
-use Rattle.spec_runs.specs.Wave.{Deltas, delta_in}
-use Rattle.spec_runs.specs.Telling.{Telling as TellingData, told_one}
-use Rattle.gl_world.specs.declared.tell.Telling.{Telling}
-use Rattle.gl_world.specs.Told.{telling_data, tellings_of, told_all}
-use Rattle.gl_world.proofs.Drafts.{get_is}
+use Rattle.spec_lists.proofs.Counting.{changed_len-identity}
+use Rattle.gl_lines.specs.declared.plan.ListenerDecl.{ListenerDecl}
+use Rattle.gl_delta.specs.Told.{Told}
+use Rattle.spec_states.specs.Shown.{Table, shows_in}
+use Rattle.spec_states.specs.Wave.{Deltas, delta_in}
+use Rattle.spec_whole_runs.specs.Telling.{Telling as TellingData, telling_of, told_one}
+use Rattle.gl_world.specs.declared.telling.Telling.{Telling}
+use Rattle.gl_world.specs.Told.{telling_data, tellings_of, pieces_of, all_pieces, told_all}
+use Rattle.gl_world.specs.Section.{IsDeltaSofar, AreDeltas}
 
--- a listener whose list didn't change is told nothing
-pub told_nothing : (listeners : List ListenerDecl) (place : ℕ) (ds : Deltas) (k : ℕ) (d : ListenerDecl) (so_far : List TellingData) → k < length listeners → d ≡ get_or listeners k d → changed_len (delta_in ds d.list) ≡ 0 → so_far ≡ so_far ++ told_one listeners place ds k
-told_nothing listeners place ds k d so_far within is none =
-    sym (ap (λ ts. so_far ++ ts) told ∙ append-nil so_far)
+-- ---- one listener
+
+-- the item that stands at a place is there
+get_is : {X : Type 0} (xs : List X) (k : ℕ) (x : X) → k < length xs → x ≡ get_or xs k x → slice_get xs k ≡ Some x
+get_is [] k x within is = absurd (omega (arith, within))
+get_is (y ∷ xs) zero x within is = ap Some (sym is)
+get_is (y ∷ xs) (suc k) x within is = get_is xs k x (omega (arith, within)) is
+
+pieces_at : (told : List (Option Told)) (list : ℕ) → delta_in (all_pieces told) list
+    ≡ pieces_of (slice_index_or told list None)
+pieces_at [] list = refl
+pieces_at (d ∷ told) zero = refl
+pieces_at (d ∷ told) (suc list) = pieces_at told list
+
+-- it is told the delta of its list
+told_its : (listeners : List ListenerDecl) (place : ℕ) (deltas : Deltas) (k : ℕ) (d : ListenerDecl)
+    → k < length listeners
+    → d ≡ get_or listeners k d → told_one listeners place deltas k ≡ telling_of place k (delta_in deltas d.list)
+told_its listeners place deltas k d within is = rw (get_is listeners k d within is) refl
+
+-- nothing where nothing is told of the list
+pub told_nothing : (listeners : List ListenerDecl) (place : ℕ) (told : List (Option Told)) (k : ℕ) (d : ListenerDecl)
+    (sofar : List TellingData) → k < length listeners → d ≡ get_or listeners k d
+    → None ≡ slice_index_or told d.list None → sofar ≡ sofar ++ told_one listeners place (all_pieces told) k
+told_nothing listeners place told k d sofar within is none =
+    let pieces : delta_in (all_pieces told) d.list ≡ [] = pieces_at told d.list ∙ ap pieces_of (sym none) in
+    sym (ap (λ ts. sofar ++ ts) (told_its listeners place (all_pieces told) k d within is
+    ∙ ap (telling_of place k) pieces)
+    ∙ append-nil sofar)
+
+-- else that delta
+pub told_delta : (listeners : List ListenerDecl) (place : ℕ) (told : List (Option Told)) (k : ℕ) (d : ListenerDecl)
+    (delta : Told) (sofar after : List TellingData) → k < length listeners → d ≡ get_or listeners k d
+    → Some delta ≡ slice_index_or told d.list None → after ≡ sofar ++ telling_of place k delta.pieces
+    → after ≡ sofar ++ told_one listeners place (all_pieces told) k
+told_delta listeners place told k d delta sofar after within is some added =
+    let pieces : delta_in (all_pieces told) d.list ≡ delta.pieces = pieces_at told d.list ∙ ap pieces_of (sym some) in
+    added
+    ∙ ap (λ ts. sofar ++ ts) (sym (told_its listeners place (all_pieces told) k d within is
+    ∙ ap (telling_of place k) pieces))
+
+-- an identity is told to nobody
+pub told_identity : (place k : ℕ) (delta : List Piece) (sofar : List TellingData) → changed_len delta ≡ 0
+    → sofar ≡ sofar ++ telling_of place k delta
+told_identity place k delta sofar none =
+    let told : telling_of place k delta ≡ [] = rw (eq-eqb (changed_len delta) 0 none) refl in
+    sym (ap (λ ts. sofar ++ ts) told ∙ append-nil sofar)
+
+-- every other delta is
+pub told_change : (place k : ℕ) (delta : List Piece) (ts : List Telling) (t : Telling) → changed_len delta ≢ 0
+    → t.listener ≡ k → t.place ≡ place → t.event.pieces ≡ delta
+    → tellings_of (ts ++ t ∷ []) ≡ tellings_of ts ++ telling_of place k delta
+told_change place k delta ts t some listener_is place_is delta_is =
+    let told : telling_of place k delta ≡ record { listener = k; place = place; delta = delta } ∷ [] =
+    rw (ne_eqb (changed_len delta) 0 some) refl in
+    map-append telling_data ts (t ∷ []) ∙ ap (λ us. tellings_of ts ++ us) (same ∙ sym told)
   where
-    told : told_one listeners place ds k ≡ []
-    told = rw (get_is listeners k d within is, eq-eqb (changed_len (delta_in ds d.list)) 0 none) refl
-
--- every other one is told the delta
-pub told_delta : (listeners : List ListenerDecl) (place : ℕ) (ds : Deltas) (k : ℕ) (d : ListenerDecl) (delta : List Piece) → k < length listeners → d ≡ get_or listeners k d → delta_in ds d.list ≡ delta → changed_len delta ≢ 0
-    → record { listener = k; place = place; delta = delta } ∷ [] ≡ told_one listeners place ds k
-told_delta listeners place ds k d delta within is here some = rw (get_is listeners k d within is, here, ne_eqb (changed_len delta) 0 some) refl
-
-pub told_push : (ts : List Telling) (t : Telling) (more : List TellingData) → telling_data t ∷ [] ≡ more → tellings_of (ts ++ t ∷ []) ≡ tellings_of ts ++ more
-told_push ts t more e = map-append telling_data ts (t ∷ []) ∙ ap (λ us. tellings_of ts ++ us) e
-
--- a number more at the end of a range
-pub range_more : (n k : ℕ) → range_with_len n k ++ (n + k) ∷ [] ≡ range_with_len n (k + 1)
-range_more n zero = let e : n + 0 ≡ n = omega arith in rw e refl
-range_more n (suc k) = let e : n + suc k ≡ (n + 1) + k = omega arith in let f : suc k + 1 ≡ suc (k + 1) = omega arith in rw (e, f) (ap (λ ns. n ∷ ns) (range_more (n + 1) k))
-
--- all numbers of a range are below its end
-pub range_below : (from n most : ℕ) → from + n ≤ most → AllByRecursion (λ k. k < most) (range_with_len from n)
-range_below from zero most h = tt
-range_below from (suc n) most h = (omega (arith, h), range_below (from + 1) n most (omega (arith, h)))
+    same : telling_data t ∷ [] ≡ record { listener = k; place = place; delta = delta } ∷ []
+    same = rw (← listener_is, ← place_is, ← delta_is) refl
 
 -- the list of a listener is one of those
-pub list_within : (listeners : List ListenerDecl) (n k : ℕ) (d : ListenerDecl) → AllByRecursion (λ l. l.list < n) listeners → k < length listeners → d ≡ get_or listeners k d → d.list < n
+pub list_within : (listeners : List ListenerDecl) (n k : ℕ) (d : ListenerDecl)
+    → AllByRecursion (λ l. l.list < n) listeners
+    → k < length listeners → d ≡ get_or listeners k d → d.list < n
 list_within [] n k d on within is = absurd (omega (arith, within))
-list_within (l ∷ ls) n zero d on within is = let P : ListenerDecl → Type 0 = λ m. m.list < n in subst P (sym is) on.0
+list_within (l ∷ ls) n zero d on within is = (let P : ListenerDecl → Type 0 = λ m. m.list < n in subst P (sym is) on.0)
 list_within (l ∷ ls) n (suc k) d on within is = list_within ls n k d on.1 (omega (arith, within)) is
 
-pub range_push : (k : ℕ) → range_with_len 0 k ++ k ∷ [] ≡ range_with_len 0 (k + 1)
-range_push k = let e : 0 + k ≡ k = omega arith in let P : ℕ → Type 0 = λ n. range_with_len 0 k ++ n ∷ [] ≡ range_with_len 0 (k + 1) in subst P e (range_more 0 k)
+-- ---- all of them
+
+telling_same : (place k n : ℕ) (delta : List Piece) (a : Option Told) → IsDeltaSofar n delta a
+    → telling_of place k (pieces_of a) ≡ telling_of place k delta
+telling_same place k n delta None is =
+    let told : telling_of place k (identity n) ≡ [] =
+    rw (eq-eqb (changed_len (identity n)) 0 (changed_len-identity n)) refl in
+    sym (ap (telling_of place k) is ∙ told)
+telling_same place k n delta (Some d) is = ap (telling_of place k) is
+
+-- a listener is told the same of all deltas that stand for the same
+one_same : (listeners : List ListenerDecl) (place : ℕ) (start : Table) (deltas : Deltas) (told : List (Option Told))
+    (k : ℕ)
+    → AreDeltas start deltas told → AllByRecursion (λ d. d.list < length start) listeners
+    → told_one listeners place (all_pieces told) k ≡ told_one listeners place deltas k
+one_same listeners place start deltas told k are on = by_decl (slice_get listeners k) refl
+  where
+    same : (d : ListenerDecl) → d.list < length start
+        → telling_of place k (delta_in (all_pieces told) d.list) ≡ telling_of place k (delta_in deltas d.list)
+    same d within =
+        ap (telling_of place k) (pieces_at told d.list)
+        ∙ telling_same place k (length (shows_in start d.list)) (delta_in deltas d.list)
+        (slice_index_or told d.list None)
+        (are.each d.list within)
+
+    by_decl : (a : Option ListenerDecl) → slice_get listeners k ≡ a
+        → told_one listeners place (all_pieces told) k ≡ told_one listeners place deltas k
+    by_decl None e = rw e refl
+    by_decl (Some d) e = rw e (same d (at_place listeners k d e on))
+      where
+        at_place : (ls : List ListenerDecl) (j : ℕ) (l : ListenerDecl) → slice_get ls j ≡ Some l
+            → AllByRecursion (λ m. m.list < length start) ls → l.list < length start
+        at_place [] j l is all = absurd cc
+        at_place (m ∷ ls) zero l is all = (let first : m ≡ l = cc in
+            subst (λ (x : ListenerDecl). x.list < length start) first all.0)
+        at_place (m ∷ ls) (suc j) l is all = at_place ls j l is all.1
+
+pub told_same : (listeners : List ListenerDecl) (place : ℕ) (start : Table) (deltas : Deltas)
+    (told : List (Option Told))
+    (turn : List ℕ) → AreDeltas start deltas told → AllByRecursion (λ d. d.list < length start) listeners
+    → told_all listeners place (all_pieces told) turn ≡ told_all listeners place deltas turn
+told_same listeners place start deltas told [] are on = refl
+told_same listeners place start deltas told (k ∷ turn) are on =
+    ap (λ ts. ts ++ told_all listeners place (all_pieces told) turn)
+    (one_same listeners place start deltas told k are on)
+    ∙ ap (λ ts. told_one listeners place deltas k ++ ts) (told_same listeners place start deltas told turn are on)

@@ -1,7 +1,8 @@
-pub mod Node
-pub mod Change
-pub mod Draft
-pub mod Told
 pub mod History
+pub mod Told
 pub mod World
 pub mod Next
+pub mod Turns
+pub mod Back
+pub mod Joined
+pub mod Section

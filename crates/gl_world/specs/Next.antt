@@ -1,11 +1,11 @@
 -- What taking a writer's next section means.
 use Rattle.std.specs.Prelude.{◌≡◌, ◌<◌, ◌≤◌, ℕ, length}
 use Rattle.gl_outside.specs.declared.gate.Actor.TheVariants.{Writer}
-use Rattle.spec_runs.specs.Plan.{sections_of}
-use Rattle.spec_runs.specs.Run.{taken_by}
+use Rattle.spec_plans.specs.Plan.{sections_of}
+use Rattle.spec_whole_runs.specs.Run.{taken_by}
 use Rattle.gl_world.specs.History.{History, with_entry}
-use Rattle.gl_world.specs.declared.world.Next.{Next}
-use Rattle.gl_world.specs.declared.world.Next.TheVariants.{Some, None}
+use Rattle.gl_world.specs.declared.next.Next.{Next}
+use Rattle.gl_world.specs.declared.next.Next.TheVariants.{Some, None}
 
 -- Where the writer has a section left, it is the new last entry; else the answer names the writer, and nothing changes.
 abbrev pub TakesSection : {N : Type 0} → ℕ → History → Next N → History → Type 0

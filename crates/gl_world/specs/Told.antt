@@ -1,9 +1,11 @@
 -- The tellings of a world, as the definitions have them.
-use Rattle.std.specs.Prelude.{ℕ, List, map, flat_map}
-use Rattle.gl_types.specs.declared.list.ListenerDecl.{ListenerDecl}
-use Rattle.spec_runs.specs.Wave.{Deltas}
-use Rattle.spec_runs.specs.Telling.{Telling as TellingData, told_one}
-use Rattle.gl_world.specs.declared.tell.Telling.{Telling}
+use Rattle.std.specs.Prelude.{ℕ, List, [], map, flat_map, Option, Some, None}
+use Rattle.spec_lists.specs.Piece.{Piece}
+use Rattle.gl_lines.specs.declared.plan.ListenerDecl.{ListenerDecl}
+use Rattle.gl_delta.specs.Told.{Told}
+use Rattle.spec_states.specs.Wave.{Deltas}
+use Rattle.spec_whole_runs.specs.Telling.{Telling as TellingData, told_one}
+use Rattle.gl_world.specs.declared.telling.Telling.{Telling}
 
 -- who was told, where, and the delta
 abbrev pub telling_data : Telling → TellingData
@@ -11,6 +13,14 @@ telling_data t = record { listener = t.listener; place = t.place; delta = t.even
 
 abbrev pub tellings_of : List Telling → List TellingData
 tellings_of ts = map telling_data ts
+
+-- the pieces of a delta that is there; without one there are none
+abbrev pub pieces_of : Option Told → List Piece
+pieces_of None = []
+pieces_of (Some d) = d.pieces
+
+abbrev pub all_pieces : List (Option Told) → Deltas
+all_pieces told = map pieces_of told
 
 -- what these listeners are told, one after another
 abbrev pub told_all : List ListenerDecl → ℕ → Deltas → List ℕ → List TellingData

@@ -1,19 +1,23 @@
-//! A world: the lists of a plan, kept up to date as its actors take their sections one after another.
+//! A world: the lists of a whole plan, kept up to date as its actors take their sections one after another.
 //! Contracts see a world as its plan and the order of the entries so far, which fix everything else: the replies, what
 //! listeners were told, what lists show and what is left.
 #![tactic(auto)]
 
-mod change;
-mod elements;
-mod node;
+mod back;
+mod command;
+mod joined;
+mod log;
+mod next;
 mod section;
-mod shows;
-mod tell;
-mod wave;
+mod show;
+mod telling;
+mod turns;
 mod world;
 
 pub use gl_event::Event;
+pub use gl_graph::BuildFault;
+pub use gl_lines::Reply;
 pub use gl_outside::Actor;
-pub use gl_types::Reply;
-pub use tell::Telling;
-pub use world::{BuildFault, Next, RunName, Spent, World};
+pub use next::{Next, Spent};
+pub use telling::Telling;
+pub use world::{RunName, World};

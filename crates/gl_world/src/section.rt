@@ -1,148 +1,100 @@
 //! The commands of a section, taken one after another.
 
-ghost use Rattle.std.specs.Prelude.{◌≡◌, IfOk, OnOk, length, None};
-ghost use Rattle.spec_runs.specs.State.{contents_of, with_contents};
-ghost use Rattle.spec_runs.specs.Wave.{contents_at, edited, wave};
-ghost use Rattle.spec_runs.specs.Step.{refusal, step, out_of_range, past_end};
-ghost use Rattle.gl_world.specs.Node.{own_of, state_of};
-ghost use Rattle.gl_world.specs.Draft.{deltas_of, IsWithin, IsBegun, IsReady, HasStepped, IsAfter};
+ghost use Rattle.std.specs.Prelude.{◌≡◌, ◌++◌, ◌∷◌, [], length, IfOk, OnOk, OnErr};
+ghost use Rattle.std.specs.List.{AllByRecursion};
+ghost use Rattle.spec_states.specs.Shown.{table_of};
+ghost use Rattle.spec_states.specs.Step.{step};
+ghost use Rattle.spec_whole_runs.specs.Kinds.{IsFor};
+ghost use Rattle.spec_whole_runs.specs.Section.{state_after, replies_to, section_deltas};
+ghost use Rattle.gl_graph.specs.Graph.{state_of};
+ghost use Rattle.gl_graph.specs.Waves.{contents};
+ghost use Rattle.gl_world.specs.Back.{Leads, GoesOn};
+ghost use Rattle.gl_world.specs.Section.{AreDeltas, Reach, GoOn};
 
-use crate::elements::Elements;
-use crate::node::Node;
-use crate::wave::{advance_all, changes, source_of};
-use gl_delta::Delta;
-use gl_types::{Command, Reply};
+use crate::back::retreat_all;
+use crate::command::take;
+use gl_delta::Deltas;
+use gl_graph::{Graph, GraphUndo};
+use gl_lines::{Command, Reply};
+use gl_value::{Memory, Steps};
 use sqlite_items::Items;
-use std::alloc::{AllocError, Global};
+use std::alloc::Global;
+use std::sync::ledger::Ledger;
 
-/// The lists as a section works on them: what they keep, what they show, and the delta of each since the section began.
+/// What commands came to: their replies, the delta of each list, none where it is the identity, and the way back.
 #[derive(Drop)]
-pub struct Draft {
-    pub nodes: Vec<Node>,
-    pub shown: Vec<Elements>,
-    pub deltas: Vec<Delta>,
+pub(crate) struct Taken {
+    pub(crate) replies: Items<Reply>,
+    pub(crate) deltas: Deltas,
+    pub(crate) undos: Vec<GraphUndo>,
 }
 
-/// The lists after the commands, and the reply to each of them.
-pub fn after(
+/// Takes the commands, all of them or, where there is no memory, none.
+pub(crate) fn take_all<L: Ledger>(
     alloc: Global,
-    draft: Draft,
+    graph: &mut Graph,
+    lists: u32,
     commands: &[Command],
-) -> Result<(Draft, Items<Reply>), AllocError>
-    requires { IsBegun (state_of draft.nodes.items) draft.shown.items (deltas_of draft.deltas.items) (length commands.now) }
-    ensures { IfOk result (λ done. IsAfter (state_of draft.nodes.items) commands.now (state_of done.0.nodes.items) done.0.shown.items (deltas_of done.0.deltas.items) done.1) }
+    steps: &mut Steps<L>,
+) -> Result<Taken, Memory>
+    requires lists { lists ≡ length (state_of graph.old) }
+    requires suits { AllByRecursion (λ c. IsFor c (state_of graph.old)) commands.now }
+    ensures limit { graph.new.limit ≡ graph.old.limit }
+    ensures state { OnOk result (state_of graph.new ≡ state_after graph.old.limit (state_of graph.old) commands.now) }
+    ensures replies { IfOk result (λ taken. taken.replies
+        ≡ replies_to graph.old.limit (state_of graph.old) commands.now) }
+    ensures told { IfOk result (λ taken. AreDeltas (table_of (state_of graph.old))
+        (section_deltas graph.old.limit (state_of graph.old) commands.now) taken.deltas) }
+    ensures back { IfOk result (λ taken. Leads taken.undos.items graph.old graph.new) }
+    ensures err { OnErr result (contents graph.new ≡ contents graph.old) }
 {
-    let mut draft = draft;
-    let mut replies = Items::new(alloc);
+    graph.law();
+    let mut taken = Taken {
+        replies: Items::new(alloc),
+        deltas: Deltas::make(alloc, lists)?,
+        undos: Vec::new(alloc),
+    };
     for command in commands {
-        let reply = take(alloc, &mut draft, command)?;
-        replies.push(reply)?;
+        match take_next(alloc, graph, &mut taken, lists, command, steps) {
+            Ok(()) => {}
+            Err(memory) => {
+                retreat_all(graph, taken.undos);
+                return Err(memory);
+            }
+        }
     }
-    Ok((draft, replies))
+    Ok(taken)
 }
 
-// Takes one command. After an `Err` the draft is of no use.
-fn take(alloc: Global, draft: &mut Draft, command: &Command) -> Result<Reply, AllocError>
-    requires { IsReady (state_of draft.old.nodes.items) draft.old.shown.items (deltas_of draft.old.deltas.items) }
-    ensures reply { IfOk result (λ reply. reply ≡ (step (state_of draft.old.nodes.items) command.now).reply) }
-    ensures step { OnOk result (HasStepped (state_of draft.old.nodes.items) (deltas_of draft.old.deltas.items) command.now (state_of draft.new.nodes.items) draft.new.shown.items (deltas_of draft.new.deltas.items)) }
+// Takes one command more. After an `Err` only the undos are of use.
+fn take_next<L: Ledger>(
+    alloc: Global,
+    graph: &mut Graph,
+    taken: &mut Taken,
+    lists: u32,
+    command: &Command,
+    steps: &mut Steps<L>,
+) -> Result<(), Memory>
+    requires lists { lists ≡ length (state_of graph.old) }
+    requires suits { IsFor command.now (state_of graph.old) }
+    requires deltas { Reach taken.old.deltas (state_of graph.old) }
+    ensures limit { graph.new.limit ≡ graph.old.limit }
+    ensures back { GoesOn taken.old.undos.items graph.old taken.new.undos.items graph.new }
+    ensures state { OnOk result (state_of graph.new ≡ (step graph.old.limit (state_of graph.old) command.now).state) }
+    ensures replies { OnOk result (taken.new.replies
+        ≡ taken.old.replies ++ (step graph.old.limit (state_of graph.old) command.now).reply ∷ []) }
+    ensures told { OnOk result (GoOn graph.old.limit (state_of graph.old) command.now
+        taken.old.deltas taken.new.deltas) }
 {
-    if let Some(reply) = refused(draft.nodes.as_slice(), command) {
-        return Ok(reply);
-    }
-    let changes = changes(
+    let reply = take(
         alloc,
-        draft.nodes.as_slice(),
-        draft.shown.as_slice(),
+        graph,
+        &mut taken.deltas,
+        &mut taken.undos,
+        lists,
         command,
+        steps,
     )?;
-    edit(&mut draft.nodes, command)?;
-    advance_all(&mut draft.shown, &mut draft.deltas, changes.as_slice())?;
-    Ok(Reply::Done)
-}
-
-// The reply of the state that refuses the command, if it does.
-fn refused(nodes: &[Node], command: &Command) -> Option<Reply>
-    ensures { result ≡ refusal (state_of nodes.now) command.now }
-{
-    let len = contents_len(nodes, source_of(command));
-    match command {
-        Command::Add { .. } => None,
-        Command::Insert { index, .. } => past_end(*index as usize, len),
-        Command::Set { index, .. } => out_of_range(*index as usize, len),
-        Command::Remove { index, .. } => out_of_range(*index as usize, len),
-    }
-}
-
-fn past_end(index: usize, len: usize) -> Option<Reply>
-    ensures { result ≡ past_end index len }
-{
-    if index <= len {
-        return None;
-    }
-    Some(Reply::OutOfRange {
-        index: index as u64,
-        len: len as u64,
-    })
-}
-
-fn out_of_range(index: usize, len: usize) -> Option<Reply>
-    ensures { result ≡ out_of_range index len }
-{
-    if index < len {
-        return None;
-    }
-    Some(Reply::OutOfRange {
-        index: index as u64,
-        len: len as u64,
-    })
-}
-
-// Edits the source of a command that isn't refused.
-fn edit(nodes: &mut Vec<Node>, command: &Command) -> Result<(), AllocError>
-    requires { refusal (state_of nodes.old.items) command.now ≡ None }
-    ensures { OnOk result (state_of nodes.new.items ≡ wave (state_of nodes.old.items) command.now) }
-{
-    let list = source_of(command);
-    if list >= nodes.len() {
-        return Ok(());
-    }
-    let node = &mut nodes[list];
-    edit_node(node, command)?;
+    taken.replies.push(reply)?;
     Ok(())
-}
-
-fn edit_node(node: &mut Node, command: &Command) -> Result<(), AllocError>
-    requires { IsWithin command.now (contents_of (own_of node.old)) }
-    ensures { OnOk result (own_of node.new ≡ with_contents (own_of node.old) (edited command.now (contents_of (own_of node.old)))) }
-{
-    match command {
-        Command::Add { list: _, value } => node.add(value.copy()?),
-        Command::Insert {
-            list: _,
-            index,
-            value,
-        } => node.insert(*index as usize, value.copy()?),
-        Command::Set {
-            list: _,
-            index,
-            value,
-        } => {
-            node.set(*index as usize, value.copy()?);
-            Ok(())
-        }
-        Command::Remove { list: _, index } => {
-            node.remove(*index as usize);
-            Ok(())
-        }
-    }
-}
-
-fn contents_len(nodes: &[Node], list: usize) -> usize
-    ensures { result ≡ length (contents_at (state_of nodes.now) list) }
-{
-    match nodes.get(list) {
-        Some(node) => node.len(),
-        None => 0,
-    }
 }

@@ -1,59 +1,44 @@
 //! The world of a plan.
 
-ghost use Rattle.std.specs.Prelude.{◌≡◌, ◌<◌, ◌≤◌, [], length, map, slice_get, IfOk, OnErr};
-ghost use Rattle.std.specs.List.{AllByRecursion, range_with_len};
+ghost use Rattle.std.specs.Prelude.{◌≡◌, ◌<◌, ◌≤◌, [], length, slice_get, None, IfOk, IfErr, OnOk, OnErr};
 ghost use Rattle.std.specs.Option.{option_copied};
-ghost use Rattle.spec_runs.specs.State.{opening_of};
-ghost use Rattle.spec_runs.specs.Shown.{EachShowsItsView, shows_in};
-ghost use Rattle.spec_runs.specs.Run.{run, left_to, replies_at, shown_after};
-ghost use Rattle.spec_runs.specs.Plan.{most_size};
-ghost use Rattle.spec_runs.specs.Telling.{listener_turns};
-ghost use Rattle.spec_runs.specs.Wave.{unchanged};
-ghost use Rattle.spec_runs.specs.Laws.{EachHears};
-ghost use Rattle.gl_world.specs.Node.{state_of};
-ghost use Rattle.gl_world.specs.Draft.{deltas_of};
+ghost use Rattle.spec_states.specs.State.{opening};
+ghost use Rattle.spec_states.specs.Shown.{EachShowsItsView};
+ghost use Rattle.spec_states.specs.Step.{too_long};
+ghost use Rattle.spec_whole_runs.specs.Run.{run, left_to, replies_at, shown_after};
+ghost use Rattle.spec_whole_runs.specs.Telling.{listener_turns};
+ghost use Rattle.gl_graph.specs.Build.{IsReason};
 ghost use Rattle.gl_world.specs.Told.{tellings_of};
+ghost use Rattle.gl_world.specs.World.{CanOpen};
 
-use crate::elements::Elements;
-use crate::node::Node;
-use crate::section::{Draft, after};
-use crate::shows::shown_by_all;
-use crate::tell::{Telling, tellings};
-use gl_delta::Delta;
+use crate::back::retreat_all;
+use crate::log::Log;
+use crate::next::{Next, Spent};
+use crate::section::{Taken, take_all};
+use crate::telling::Telling;
+use crate::turns::turns_of;
+use gl_graph::{BuildFault, Graph};
+use gl_lines::Reply;
 use gl_outside::Actor;
-use gl_plan::{ListDecl, Plan};
-use gl_types::{Duplicate, Reply};
-use gl_value::Value;
+use gl_publisher::Numbers;
+use gl_value::{Memory, Steps, Value};
+use gl_whole_plan::Plan;
 use sqlite_items::Items;
-use std::alloc::{AllocError, Global};
+use std::alloc::Global;
 use std::marker::{Model, PhantomData};
+use std::sync::ledger::Ledger;
 
 /// Names one run of a program. It has no part at run time.
 pub trait RunName {}
-
-/// Why a world isn't opened.
-#[derive(Clone, Copy, Debug, PartialEq, Eq)]
-pub enum BuildFault {
-    Memory,
-}
-
-impl From<AllocError> for BuildFault {
-    fn from(_e: AllocError) -> BuildFault {
-        BuildFault::Memory
-    }
-}
 
 /// The lists of a plan, as the entries so far have left them.
 #[derive(Drop)]
 pub struct World<N: RunName> {
     alloc: Global,
     plan: Plan,
-    nodes: Vec<Node>,
-    shown: Vec<Elements>,
-    order: Vec<Actor>,
-    replies: Items<Items<Reply>>,
-    turn: Vec<u32>,
-    told: Vec<Telling>,
+    graph: Graph,
+    log: Log,
+    turn: Numbers,
     taken: Vec<usize>,
     name: PhantomData<N>,
 }
@@ -61,42 +46,43 @@ pub struct World<N: RunName> {
 impl<N: RunName> Model for World<N> {
     ghost use Rattle.std.specs.Coded.{codes};
     ghost use Rattle.spec_value.specs.Code.{tree_code};
+    ghost use Rattle.spec_lang.specs.MatcherCode.{matcher_code};
+    ghost use Rattle.spec_lang.specs.FuncCode.{func_code};
     ghost use Rattle.gl_world.specs.History.{History};
-
-    ghost Value = { History };
-
-    ghost coded = { Prim.hlevel (codes, tree_code) };
-
-    ghost use Rattle.gl_world.specs.Node.{state_of};
     ghost use Rattle.gl_world.specs.Told.{tellings_of};
     ghost use Rattle.gl_world.specs.World.{IsWorld};
 
-    ghost view = { λ w. record { plan = w.plan; order = w.order.items } };
+    ghost Value = { History };
 
-    ghost invariant = { λ w. IsWorld w.plan w.order.items (state_of w.nodes.items) w.shown.items w.replies w.turn.items (tellings_of w.told.items) w.taken.items };
+    ghost coded = { Prim.hlevel (codes, tree_code, matcher_code, func_code) };
+
+    ghost view = { λ w. record { plan = w.plan; order = w.log.order.items } };
+
+    ghost invariant = { λ w. IsWorld w.plan w.log.order.items w.graph w.log.replies w.turn
+        (tellings_of w.log.told.items) w.taken.items };
 }
 
 impl<N: RunName> World<N> {
     ghost use Rattle.gl_world.specs.Next.{TakesSection};
 
-    /// The world of the plan before its first entry. It takes memory for a copy of the plan and what its lists show.
+    /// The world of the plan before its first entry. It takes memory for a copy of the plan and for what its lists
+    /// keep.
     pub fn open(alloc: Global, plan: &Plan) -> Result<World<N>, BuildFault>
-        ensures { IfOk result (λ w. w ≡ record { plan = plan.now; order = [] }) }
+        requires { CanOpen plan.now }
+        ensures world { IfOk result (λ w. w ≡ record { plan = plan.now; order = [] }) }
+        ensures within { OnOk result (too_long plan.now.limit (opening plan.now) ≡ None) }
+        ensures fault { IfErr result (IsReason plan.now.limit (opening plan.now)) }
     {
-        let copy = plan.copy(alloc)?;
-        let nodes = opened(alloc, plan.lists())?;
-        let shown = shown_by_all(alloc, nodes.as_slice())?;
-        let turn = numbers(alloc, plan.listeners().len() as u32)?;
+        let turn = turns_of(alloc, plan.listeners())?;
         let taken = vec![in alloc; 0usize; plan.writers() as usize]?;
+        let copy = plan.copy(alloc)?;
+        let graph = Graph::build(alloc, plan)?;
         Ok(World {
             alloc,
             plan: copy,
-            nodes,
-            shown,
-            order: Vec::new(alloc),
-            replies: Items::new(alloc),
+            graph,
+            log: Log::new(alloc),
             turn,
-            told: Vec::new(alloc),
             taken,
             name: PhantomData,
         })
@@ -104,7 +90,8 @@ impl<N: RunName> World<N> {
 
     /// The plan.
     pub fn plan(&self) -> &Plan
-        ensures { result.now ≡ self.now.plan }
+        ensures plan { result.now ≡ self.now.plan }
+        ensures opens { CanOpen self.now.plan }
     {
         &self.plan
     }
@@ -113,7 +100,7 @@ impl<N: RunName> World<N> {
     pub fn order(&self) -> &[Actor]
         ensures { result.now ≡ self.now.order }
     {
-        self.order.as_slice()
+        self.log.order.as_slice()
     }
 
     /// The replies of an entry to its commands.
@@ -121,7 +108,7 @@ impl<N: RunName> World<N> {
         requires { place < length self.now.order }
         ensures { result.now ≡ replies_at self.now.plan self.now.order place }
     {
-        match self.replies.get(place as usize) {
+        match self.log.replies.get(place as usize) {
             Some(replies) => replies.as_slice(),
             None => &[],
         }
@@ -131,7 +118,7 @@ impl<N: RunName> World<N> {
     pub fn told(&self) -> &[Telling]
         ensures { tellings_of result.now ≡ (run self.now.plan self.now.order).told }
     {
-        self.told.as_slice()
+        self.log.told.as_slice()
     }
 
     /// The listeners in the order in which they are told at an entry.
@@ -154,12 +141,11 @@ impl<N: RunName> World<N> {
     /// How many elements a list shows.
     pub fn len(&self, list: u32) -> usize
         requires { list < length self.now.plan.lists }
-        ensures { result ≡ length (shown_after self.now.plan self.now.order list) }
+        ensures len { result ≡ length (shown_after self.now.plan self.now.order list) }
+        ensures few { result ≤ self.now.plan.limit }
     {
-        match self.shown.get(list as usize) {
-            Some(values) => values.len(),
-            None => 0,
-        }
+        self.graph.law();
+        self.graph.len(list)
     }
 
     /// What a list shows at a place.
@@ -168,18 +154,21 @@ impl<N: RunName> World<N> {
         ensures value { option_copied result ≡ slice_get (shown_after self.now.plan self.now.order list) place }
         ensures views { EachShowsItsView (run self.now.plan self.now.order).state }
     {
-        let _ = self.plan.lists();
-        element(self.shown.as_slice(), list as usize, place)
+        self.graph.law();
+        self.graph.get(list, place)
     }
 
-    /// Takes a writer's next section, as one entry; its place among the entries is answered. The lists are copied, and
-    /// replaced at the end, so after an `Err` the world is as it was.
-    pub fn section(&mut self, writer: u32) -> Result<Next<N>, AllocError>
+    /// Takes a writer's next section, as one entry; its place among the entries is answered. A section that finds no
+    /// memory goes back by the undos of its commands. It takes memory for its replies, its tellings and its changes.
+    pub fn section<L: Ledger>(
+        &mut self,
+        writer: u32,
+        steps: &mut Steps<L>,
+    ) -> Result<Next<N>, Memory>
         requires { writer < length self.old.plan.writers }
         ensures taken { IfOk result (λ next. TakesSection writer self.old next self.new) }
         ensures err { OnErr result (self.new ≡ self.old) }
     {
-        let _ = self.plan.lists();
         let section = self.taken[writer as usize];
         if section >= self.plan.sections(writer) {
             return Ok(Next::None(Spent {
@@ -187,134 +176,35 @@ impl<N: RunName> World<N> {
                 name: PhantomData,
             }));
         }
-        let draft = drafted(self.alloc, self.nodes.as_slice(), self.shown.as_slice())?;
-        let commands = self.plan.commands(writer, section);
-        let (draft, replies) = after(self.alloc, draft, commands)?;
-        let place = self.order.len() as u64;
-        let mut told = tellings(
+        let taken = take_all(
+            self.alloc,
+            &mut self.graph,
+            self.plan.lists().len() as u32,
+            self.plan.commands(writer, section),
+            steps,
+        )?;
+        let Taken {
+            replies,
+            deltas,
+            undos,
+        } = taken;
+        let place = self.log.order.len() as u64;
+        match self.log.enter(
             self.alloc,
             self.plan.listeners(),
             self.turn.as_slice(),
-            place,
-            draft.deltas.as_slice(),
-        )?;
-        self.order.push(Actor::Writer(writer))?;
-        if self.replies.push(replies).is_err() {
-            self.order.pop();
-            return Err(AllocError);
+            Actor::Writer(writer),
+            replies,
+            &deltas,
+        ) {
+            Ok(()) => {
+                self.taken[writer as usize] = section + 1;
+                Ok(Next::Some(place))
+            }
+            Err(memory) => {
+                retreat_all(&mut self.graph, undos);
+                Err(memory)
+            }
         }
-        if self.told.append(&mut told).is_err() {
-            self.replies.pop();
-            self.order.pop();
-            return Err(AllocError);
-        }
-        self.nodes = draft.nodes;
-        self.shown = draft.shown;
-        self.taken[writer as usize] = section + 1;
-        Ok(Next::Some(place))
     }
-}
-
-/// What a writer's turn came to.
-#[derive(Drop)]
-pub enum Next<N: RunName> {
-    /// Its section is the entry at this place.
-    Some(u64),
-    /// It has no section left.
-    None(Spent<N>),
-}
-
-/// Tells of a writer that it has no section left. Contracts see it as the writer.
-#[derive(Drop)]
-pub struct Spent<N: RunName> {
-    writer: u32,
-    name: PhantomData<N>,
-}
-
-impl<N: RunName> Model for Spent<N> {
-    ghost use Rattle.std.specs.Prelude.{ℕ};
-
-    ghost Value = { ℕ };
-
-    ghost view = { λ s. s.writer };
-}
-
-impl<N: RunName> Spent<N> {
-    /// The writer that has no section left.
-    pub fn writer(&self) -> u32
-        ensures { result ≡ self.now }
-    {
-        self.writer
-    }
-}
-
-// The element at a place of what a list shows.
-fn element(shown: &[Elements], list: usize, place: usize) -> Option<&Value>
-    ensures { option_copied result ≡ slice_get (shows_in shown.now list) place }
-{
-    match shown.get(list) {
-        Some(values) => values.as_slice().get(place),
-        None => None,
-    }
-}
-
-// Copies of the lists, with the deltas of a section that begins.
-fn drafted(alloc: Global, nodes: &[Node], shown: &[Elements]) -> Result<Draft, AllocError>
-    requires { AllByRecursion (λ xs. length xs ≤ most_size) shown.now }
-    ensures nodes { IfOk result (λ draft. draft.nodes.items ≡ nodes.now) }
-    ensures shown { IfOk result (λ draft. draft.shown.items ≡ shown.now) }
-    ensures deltas { IfOk result (λ draft. deltas_of draft.deltas.items ≡ unchanged shown.now) }
-{
-    let nodes = copied(alloc, nodes)?;
-    let deltas = identities(alloc, shown)?;
-    let shown = copied(alloc, shown)?;
-    Ok(Draft {
-        nodes,
-        shown,
-        deltas,
-    })
-}
-
-// The identity of each list.
-fn identities(alloc: Global, shown: &[Elements]) -> Result<Vec<Delta>, AllocError>
-    requires { AllByRecursion (λ xs. length xs ≤ most_size) shown.now }
-    ensures { IfOk result (λ deltas. deltas_of deltas.items ≡ unchanged shown.now) }
-{
-    let mut deltas = Vec::with_capacity(alloc, shown.len())?;
-    for values in shown {
-        deltas.push(Delta::identity(alloc, values.len())?)?;
-    }
-    Ok(deltas)
-}
-
-// The first numbers, in order.
-fn numbers(alloc: Global, count: u32) -> Result<Vec<u32>, AllocError>
-    ensures { IfOk result (λ all. all.items ≡ range_with_len 0 count) }
-{
-    let mut all = Vec::new(alloc);
-    for number in 0..count {
-        all.push(number)?;
-    }
-    Ok(all)
-}
-
-fn copied<T: Duplicate>(alloc: Global, items: &[T]) -> Result<Vec<T>, AllocError>
-    ensures { IfOk result (λ copies. copies.items ≡ items.now) }
-{
-    let mut copies = Vec::new(alloc);
-    for item in items {
-        copies.push(item.duplicate(alloc)?)?;
-    }
-    Ok(copies)
-}
-
-// The nodes of the lists, as they open.
-fn opened(alloc: Global, lists: &[ListDecl]) -> Result<Vec<Node>, AllocError>
-    ensures { IfOk result (λ nodes. state_of nodes.items ≡ map (λ d. opening_of d.kind) lists.now) }
-{
-    let mut nodes = Vec::new(alloc);
-    for list in lists {
-        nodes.push(Node::open(alloc, &list.kind)?)?;
-    }
-    Ok(nodes)
 }

@@ -1,7 +1,7 @@
 use Rattle.std.proofs.Common.{◌≡◌, ◌-◌, length, sym, subst}
 use Rattle.gl_app.specs.Answer.{text_at}
 use Rattle.gl_app.specs.Call.{IsAhead}
-use Rattle.gl_app.proofs.CallLaws.{is_answer, quiet_answer, reports_run, not_ahead, room_for}
+use Rattle.gl_app.proofs.CallLaws.{is_answer, quiet_answer, reports_run, writes_plan, usage_without_form, not_ahead, room_for}
 use Rattle.gl_app.proofs.call.plain.Goals as goal
 
 pub returns-in-Ok-clause-answer : goal.returns-in-Ok-clause-answer
@@ -9,16 +9,31 @@ returns-in-Ok-clause-answer g c =
     let held = g.S.Source.remaining c.args.source.now in
     let old = g.K.Sink.contents c.args.sink.now in
     let new = g.K.Sink.contents c.give.new.sink in
-    let is = is_answer c.args.words.now held old new c.in-Ok.answer c.give.result c.in-Ok.ensures.answer c.give.ensures.given in
-    quiet_answer c.args.words.now held old new c.give.result _ _ is (λ e. absurd (not_ahead old new c.in-Ok.answer c.give.result c.give.ensures.given (subst IsAhead (sym e) tt))) c.give.ensures.write
+    let is = is_answer c.args.words.now held old new c.in-Ok.answer c.give.result c.in-Ok.ensures.answer
+    c.give.ensures.given in
+    quiet_answer c.args.words.now held old new c.give.result _ _ is
+    (λ e. absurd (not_ahead old new c.in-Ok.answer c.give.result c.give.ensures.given (subst IsAhead (sym e) tt)))
+    c.give.ensures.write
 
 pub returns-in-Ok-clause-by_status : goal.returns-in-Ok-clause-by_status
-returns-in-Ok-clause-by_status g c = is_answer c.args.words.now _ _ _ c.in-Ok.answer c.give.result c.in-Ok.ensures.answer c.give.ensures.given
+returns-in-Ok-clause-by_status g c = is_answer c.args.words.now _ _ _ c.in-Ok.answer c.give.result
+    c.in-Ok.ensures.answer c.give.ensures.given
 
 pub returns-in-Ok-clause-headline : goal.returns-in-Ok-clause-headline
-returns-in-Ok-clause-headline g c = reports_run c.args.words.now _ _ _ c.give.result (is_answer c.args.words.now _ _ _ c.in-Ok.answer c.give.result c.in-Ok.ensures.answer c.give.ensures.given)
+returns-in-Ok-clause-headline g c = λ order asks done. reports_run c.args.words.now _ _ _ c.give.result order
+    (is_answer c.args.words.now _ _ _ c.in-Ok.answer c.give.result c.in-Ok.ensures.answer c.give.ensures.given) asks
+    done
+
+pub returns-in-Ok-clause-written : goal.returns-in-Ok-clause-written
+returns-in-Ok-clause-written g c = writes_plan c.args.words.now _ _ _ c.give.result
+    (is_answer c.args.words.now _ _ _ c.in-Ok.answer c.give.result c.in-Ok.ensures.answer c.give.ensures.given)
+
+pub returns-in-Ok-clause-usage : goal.returns-in-Ok-clause-usage
+returns-in-Ok-clause-usage g c = usage_without_form c.args.words.now _ _ _ c.give.result
+    (is_answer c.args.words.now _ _ _ c.in-Ok.answer c.give.result c.in-Ok.ensures.answer c.give.ensures.given)
 
 pub returns-in-Ok-clause-room : goal.returns-in-Ok-clause-room
 returns-in-Ok-clause-room g c = λ n most room.
     let size = length (text_at c.in-Ok.answer) in
-    c.give.ensures.room (n - size) (subst (g.K.Sink.has_room c.args.sink.now) (sym (room_for c.args.words.now _ c.in-Ok.answer n c.in-Ok.ensures.answer most)) room)
+    c.give.ensures.room (n - size) (subst (g.K.Sink.has_room c.args.sink.now)
+    (sym (room_for c.args.words.now _ c.in-Ok.answer n c.in-Ok.ensures.answer most)) room)

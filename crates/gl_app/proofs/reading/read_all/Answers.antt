@@ -14,8 +14,11 @@ returns-in-End-clause-whole g c =
 pub returns-in-Some-eq0-clause-whole : goal.returns-in-Some-eq0-clause-whole
 returns-in-Some-eq0-clause-whole g c =
     let before = c.reading.invariant in
-    let now = c.in-Some-eq0.ensures in
-    (read_whole _ _ _ c.reading.bytes c.take.new.room (Front c.in-Some-eq0.field-0) before.read now.bytes now.end c.in-Some-eq0.field-0-test, before.within)
+    let now = c.in-Some-eq0.ensures in (
+      read_whole _ _ _ c.reading.bytes c.take.new.room (Front c.in-Some-eq0.field-0) before.read now.bytes now.end
+          c.in-Some-eq0.field-0-test,
+      before.within,
+    )
 
 pub returns-then-count-limit-clause-whole : goal.returns-then-count-limit-clause-whole
 returns-then-count-limit-clause-whole g c =

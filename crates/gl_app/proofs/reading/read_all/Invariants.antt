@@ -8,7 +8,8 @@ invariant-reading g l = record {
   read : Consumes (g.S.Source.remaining l.initial.source) (g.S.Source.remaining l.source) l.bytes;
   within : length l.bytes ≤ l.limit;
   count : GoesOn (g.S.Source.faults l.initial.source) (g.S.Source.faults l.source);
-  sound : g.S.Source.never_fails l.initial.source → g.S.Source.never_fails l.source × (g.S.Source.faults l.source ≡ g.S.Source.faults l.initial.source);
+  sound : g.S.Source.never_fails l.initial.source → g.S.Source.never_fails l.source × (g.S.Source.faults l.source
+      ≡ g.S.Source.faults l.initial.source);
 }
 
 abbrev pub decreases-reading : goal.decreases-reading

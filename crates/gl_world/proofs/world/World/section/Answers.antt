@@ -1,61 +1,95 @@
-use Rattle.std.proofs.Common.{◌≡◌, ◌∙◌, ◌<◌, ◌≤◌, ◌+◌, ◌++◌, ◌∷◌, [], length, ap, sym, subst, arith, rules, ℕ}
-use Rattle.std.specs.Prelude.{List}
+use Rattle.std.proofs.Common.{◌≡◌, ◌∙◌, ◌<◌, List, length, ap, sym, subst, arith, ℕ}
 use Rattle.std.specs.List.{AllByRecursion}
-use Rattle.std.proofs.lemmas.List.{get_or_default, map-append}
-use Rattle.gl_types.specs.declared.command.Command.{Command}
-use Rattle.spec_runs.specs.Plan.{Plan, IsPlan, commands_of, most_size}
-use Rattle.spec_runs.specs.State.{State}
-use Rattle.gl_types.specs.declared.list.ListenerDecl.{ListenerDecl}
-use Rattle.spec_runs.specs.Shown.{table_of}
-use Rattle.spec_runs.specs.Wave.{unchanged}
-use Rattle.spec_runs.specs.Section.{section_deltas}
-use Rattle.spec_runs.specs.Telling.{tellings}
-use Rattle.spec_runs.specs.Run.{taken_by}
-use Rattle.gl_world.specs.Node.{state_of}
-use Rattle.gl_world.specs.Draft.{deltas_of, IsAfter}
-use Rattle.gl_world.proofs.Entries.{world_more, world_fits, world_begins, world_listeners, world_turns, world_told, many_deltas, same_after}
-use Rattle.gl_world.specs.Told.{telling_data, tellings_of}
+use Rattle.std.proofs.lemmas.List.{get_or_default}
+use Rattle.gl_lines.specs.declared.plan.Command.{Command}
+use Rattle.gl_lines.specs.declared.plan.ListenerDecl.{ListenerDecl}
+use Rattle.spec_plans.specs.Plan.{commands_of}
+use Rattle.spec_whole_runs.specs.Kinds.{IsFor}
+use Rattle.spec_whole_runs.specs.Section.{state_after, replies_to, section_deltas}
+use Rattle.spec_whole_runs.specs.Telling.{tellings}
+use Rattle.spec_whole_runs.specs.Run.{taken_by}
+use Rattle.gl_graph.specs.Graph.{state_of}
+use Rattle.gl_graph.specs.Waves.{contents}
+use Rattle.gl_world.specs.Told.{tellings_of, told_all, all_pieces}
+use Rattle.gl_world.proofs.Entries.{world_more, world_back, world_lists, world_suits, world_heard, world_turns, world_told}
 use Rattle.gl_world.proofs.world.World.section.Goals as goal
 
-pub drafted-requires : goal.drafted-requires
-drafted-requires g c =
-    let P : List _ → Type 0 = λ t. AllByRecursion (λ xs. length xs ≤ most_size) t in
-    subst P (sym c.as_slice-2.ensures.value) (world_fits c.self.inside.plan c.self.inside.order.items _ _ _ _ _ _ c.args.writer c.lists.ensures.plan c.self.invariant)
+pub take_all-requires-clause-lists : goal.take_all-requires-clause-lists
+take_all-requires-clause-lists g c =
+    let w = c.self.inside in
+    ap length c.lists.ensures.lists ∙ sym (world_lists w.plan w.log.order.items w.graph w.log.replies w.turn
+    (tellings_of w.log.told.items) w.taken.items c.self.invariant)
 
-pub after-requires : goal.after-requires
-after-requires g c =
-    let plan : c.self.inside.plan ≡ c.args.self.now.plan = ap (λ h. h.plan) c.self.view_is in
-    let there : c.args.writer < length c.self.inside.plan.writers = rw plan c.requires in
-    let section : c.index-section.result.now ≡ taken_by c.args.writer c.self.inside.order.items = c.index-section.ensures ∙ get_or_default c.self.inside.taken.items c.args.writer _ 0 (omega (arith, c.self.invariant.writers)) ∙ c.self.invariant.sections c.args.writer there in
-    world_begins c.self.inside.plan c.self.inside.order.items _ _ _ _ _ _ c.args.writer c.index-section.result.now c.in_ok-draft.draft.nodes.items c.in_ok-draft.draft.shown.items (deltas_of c.in_ok-draft.draft.deltas.items) c.commands-commands.result.now c.lists.ensures.plan c.self.invariant section c.commands-commands.ensures
-    (ap state_of (c.in_ok-draft.ensures.nodes ∙ c.as_slice.ensures.value)) (c.in_ok-draft.ensures.shown ∙ c.as_slice-2.ensures.value) (c.in_ok-draft.ensures.deltas ∙ ap unchanged c.as_slice-2.ensures.value)
+pub take_all-requires-clause-suits : goal.take_all-requires-clause-suits
+take_all-requires-clause-suits g c =
+    let w = c.self.inside in
+    let P : List Command → Type 0 = λ cs. AllByRecursion (λ d. IsFor d (state_of w.graph)) cs in
+    subst P (sym c.commands.ensures)
+    (world_suits w.plan w.log.order.items w.graph w.log.replies w.turn
+    (tellings_of w.log.told.items) w.taken.items c.args.writer c.index-section.result.now c.self.invariant)
 
-pub tellings-requires-clause-on : goal.tellings-requires-clause-on
-tellings-requires-clause-on g c =
-    let ns : state_of c.in_ok-draft.draft.nodes.items ≡ state_of c.self.inside.nodes.items = ap state_of (c.in_ok-draft.ensures.nodes ∙ c.as_slice.ensures.value) in
-    let cs : List Command = c.commands-commands.result.now in
-    let many : length c.as_slice-4.result.now ≡ length (section_deltas (state_of c.self.inside.nodes.items) cs) = many_deltas c.in_ok-draft-2.draft.deltas.items c.as_slice-4.result.now _ c.as_slice-4.ensures.value c.in_ok-draft-2.ensures.told_is ∙ ap (λ s. length (section_deltas s cs)) ns in
-    let P : List ListenerDecl → Type 0 = λ ls. AllByRecursion (λ d. d.list < length c.as_slice-4.result.now) ls in
-    subst P (sym c.listeners.ensures.listeners) (world_listeners c.self.inside.plan c.self.inside.order.items _ _ _ _ _ _ cs (length c.as_slice-4.result.now) c.lists.ensures.plan c.self.invariant many)
+pub invariant_of-self : goal.invariant_of-self
+invariant_of-self g c =
+    let w = c.self.inside in
+    world_back w.plan w.log.order.items w.graph c.take_all.new.graph w.log.replies w.turn
+    (tellings_of w.log.told.items) w.taken.items c.self.invariant c.in_err-taken.ensures.err
 
-pub tellings-requires-clause-known : goal.tellings-requires-clause-known
-tellings-requires-clause-known g c =
-    world_turns c.self.inside.plan c.self.inside.order.items _ _ _ _ _ _ c.listeners.result.now c.as_slice-3.result.now c.self.invariant c.listeners.ensures.listeners c.as_slice-3.ensures.value
+pub enter-requires-clause-on : goal.enter-requires-clause-on
+enter-requires-clause-on g c =
+    let w = c.self.inside in
+    let P : ℕ → Type 0 = λ n. AllByRecursion (λ d. d.list < n) w.plan.listeners in
+    let Q : List ListenerDecl → Type 0 = λ ls. AllByRecursion (λ d. d.list < length c.in_ok-taken.taken.deltas) ls in
+    subst Q (sym c.listeners.ensures.listeners)
+    (subst P (sym c.in_ok-taken.ensures.told.long)
+    (world_heard w.plan w.log.order.items w.graph w.log.replies w.turn
+    (tellings_of w.log.told.items) w.taken.items c.self.invariant))
 
-pub invariant_of-self-2 : goal.invariant_of-self-2
-invariant_of-self-2 g c =
-    let plan : c.self.inside.plan ≡ c.args.self.now.plan = ap (λ h. h.plan) c.self.view_is in
-    let there : c.args.writer < length c.self.inside.plan.writers = rw plan c.requires in
-    let section : c.index-section.result.now ≡ taken_by c.args.writer c.self.inside.order.items = c.index-section.ensures ∙ get_or_default c.self.inside.taken.items c.args.writer _ 0 (omega (arith, c.self.invariant.writers)) ∙ c.self.invariant.sections c.args.writer there in
-    let s : State = state_of c.self.inside.nodes.items in
-    let cs : List Command = commands_of c.self.inside.plan c.args.writer c.index-section.result.now in
-    let ns : state_of c.in_ok-draft.draft.nodes.items ≡ s = ap state_of (c.in_ok-draft.ensures.nodes ∙ c.as_slice.ensures.value) in
-    let done : IsAfter s cs (state_of c.in_ok-draft-2.draft.nodes.items) c.in_ok-draft-2.draft.shown.items (deltas_of c.in_ok-draft-2.draft.deltas.items) c.in_ok-draft-2.replies = same_after s (state_of c.in_ok-draft.draft.nodes.items) c.commands-commands.result.now cs _ _ _ _ ns c.commands-commands.ensures c.in_ok-draft-2.ensures in
-    let place : c.len-place.result ≡ length c.self.inside.order.items = omega (arith, c.len-place.ensures, c.self.inside.order.ok.0) in
-    let more : tellings_of c.in_ok-told.told.items ≡ tellings c.self.inside.plan (length c.self.inside.order.items) (section_deltas s cs) =
-    world_told c.self.inside.plan c.self.inside.order.items _ _ _ _ _ _ c.listeners.result.now c.len-place.result c.in_ok-draft-2.draft.deltas.items c.as_slice-4.result.now c.as_slice-3.result.now (section_deltas s cs) (tellings_of c.in_ok-told.told.items) c.self.invariant c.listeners.ensures.listeners place c.as_slice-4.ensures.value done.told_is c.as_slice-3.ensures.value c.in_ok-told.ensures in
-    let replies : c.push-2.new.self ≡ c.self.inside.replies ++ c.in_ok-draft-2.replies ∷ [] = search rules in
-    let appended : c.append.new.self.items ≡ c.self.inside.told.items ++ c.in_ok-told.told.items = search rules in
-    let told : tellings_of c.append.new.self.items ≡ tellings_of c.self.inside.told.items ++ tellings_of c.in_ok-told.told.items = ap tellings_of appended ∙ map-append telling_data c.self.inside.told.items c.in_ok-told.told.items in
-    rw (c.in_ok-push.ensures.items, replies, told)
-    (world_more c.self.inside.plan c.self.inside.order.items s (state_of c.in_ok-draft-2.draft.nodes.items) c.self.inside.shown.items c.in_ok-draft-2.draft.shown.items c.self.inside.replies c.in_ok-draft-2.replies c.self.inside.turn.items (tellings_of c.self.inside.told.items) (tellings_of c.in_ok-told.told.items) c.self.inside.taken.items c.args.writer c.index-section.result.now c.self.invariant there section done.state done.answers (done.table ∙ ap table_of (sym done.state)) more)
+pub enter-requires-clause-known : goal.enter-requires-clause-known
+enter-requires-clause-known g c =
+    let w = c.self.inside in
+    let P : List ℕ → Type 0 = λ ks. AllByRecursion (λ k. k < length c.listeners.result.now) ks in
+    let Q : List ListenerDecl → Type 0 = λ ls. AllByRecursion (λ k. k < length ls) w.turn in
+    subst P (sym c.as_slice.ensures)
+    (subst Q (sym c.listeners.ensures.listeners)
+    (world_turns w.plan w.log.order.items w.graph w.log.replies w.turn
+    (tellings_of w.log.told.items) w.taken.items c.listeners.ensures.plan.acyclic c.self.invariant))
+
+pub invariant_of-self-in-Ok : goal.invariant_of-self-in-Ok
+invariant_of-self-in-Ok g c =
+    let w = c.self.inside in
+    let order = w.log.order.items in
+    let world = c.self.invariant in
+    let t = c.in_ok-taken.taken in
+    let e = c.in_ok-taken.ensures in
+    let n = c.in-Ok.ensures in
+    let k = w.graph in
+    let section = c.index-section.result.now in
+    let plan : w.plan ≡ c.args.self.now.plan = ap (λ h. h.plan) c.self.view_is in
+    let there : c.args.writer < length w.plan.writers = rw plan c.requires in
+    let section_is : section ≡ taken_by c.args.writer order = c.index-section.ensures
+    ∙ get_or_default w.taken.items c.args.writer _ 0 (omega (arith, there, world.writers))
+    ∙ world.sections c.args.writer there in
+    let cs : List Command = commands_of w.plan c.args.writer section in
+    let is : c.commands.result.now ≡ cs = c.commands.ensures in
+    let more : told_all c.listeners.result.now (length order) (all_pieces t.deltas) c.as_slice.result.now
+    ≡ tellings w.plan (length order) (section_deltas k.limit (state_of k) cs) =
+    ap (λ ls. told_all ls (length order) (all_pieces t.deltas) c.as_slice.result.now) c.listeners.ensures.listeners
+    ∙ ap (told_all w.plan.listeners (length order) (all_pieces t.deltas)) c.as_slice.ensures
+    ∙ world_told w.plan order k w.log.replies w.turn (tellings_of w.log.told.items) w.taken.items
+    c.commands.result.now t.deltas world e.told
+    ∙ ap (λ ds. tellings w.plan (length order) (section_deltas k.limit (state_of k) ds)) is in
+    rw (n.order, n.replies, n.told)
+    (world_more w.plan order k c.take_all.new.graph w.log.replies t.replies w.turn
+    (tellings_of w.log.told.items) _ w.taken.items c.args.writer section world there section_is
+    e.limit (e.state ∙ ap (state_after k.limit (state_of k)) is)
+    (e.replies ∙ ap (replies_to k.limit (state_of k)) is) more)
+
+pub invariant_of-self-in-Err : goal.invariant_of-self-in-Err
+invariant_of-self-in-Err g c =
+    let w = c.self.inside in
+    let n = c.in-Err.ensures in
+    let back : contents c.retreat_all.new.graph ≡ contents w.graph =
+    c.retreat_all.ensures w.graph c.in_ok-taken.ensures.back in
+    rw (n.same_order, n.same_replies, n.same_told)
+    (world_back w.plan w.log.order.items w.graph c.retreat_all.new.graph w.log.replies w.turn
+    (tellings_of w.log.told.items) w.taken.items c.self.invariant back)

@@ -1,7 +1,0 @@
-use Rattle.gl_app.proofs.CallLaws.{too_large_answer}
-use Rattle.gl_app.proofs.outcome.answer_replay.Goals as goal
-
-pub returns-in-Err-TooLarge-clause-answer : goal.returns-in-Err-TooLarge-clause-answer
-returns-in-Err-TooLarge-clause-answer g c =
-    let whole = rw c.in-Err-TooLarge.field-0-is at c.in-Err-TooLarge.ensures.whole in
-    too_large_answer c.args.order.now (g.S.Source.remaining c.args.source.now) (g.S.Source.remaining c.read_all.new.source) whole

@@ -1,0 +1,38 @@
+-- The lists of a plan that is built are of the kinds that a graph opens.
+use Rattle.std.proofs.Common.{◌≡◌, zero, suc, true, List, [], ◌∷◌, subst}
+use Rattle.std.specs.List.{list_all}
+use Rattle.std.proofs.lemmas.Bool.{and_parts}
+use Rattle.gl_lines.specs.declared.plan.ListDecl.{ListDecl}
+use Rattle.gl_lines.specs.declared.plan.ListKind.{ListKind}
+use Rattle.gl_lines.specs.declared.plan.ListKind.TheVariants as kinds
+use Rattle.spec_plans.specs.Plan.{Plan}
+use Rattle.spec_whole_runs.specs.Built.{is_built_kind, is_built}
+use Rattle.spec_whole_runs.proofs.Suiting.{built_lists}
+use Rattle.gl_graph.specs.Opening.{IsKindBuilt, AreKindsBuilt}
+
+kind_built : (kind : ListKind) → is_built_kind kind ≡ true → IsKindBuilt kind
+kind_built (kinds.Source rows) e = tt
+kind_built (kinds.Filter input matcher) e = tt
+kind_built (kinds.Range input bounds) e = tt
+kind_built (kinds.Function input func) e = tt
+kind_built (kinds.Sorted input order) e = absurd cc
+kind_built (kinds.Unique input order) e = absurd cc
+kind_built (kinds.Grouping input order) e = absurd cc
+kind_built (kinds.Collection input kids) e = absurd cc
+kind_built (kinds.Composite members may) e = absurd cc
+kind_built (kinds.Transaction input) e = absurd cc
+kind_built (kinds.Freezable input) e = absurd cc
+kind_built (kinds.Proxy input) e = absurd cc
+
+all_built : (ds : List ListDecl) → list_all (λ d. is_built_kind d.kind) ds ≡ true → AreKindsBuilt ds
+all_built [] e k d is = absurd cc
+all_built (first ∷ ds) e zero d is =
+    let parts = and_parts (is_built_kind first.kind) (list_all (λ d. is_built_kind d.kind) ds) e in
+    let same : first ≡ d = cc in
+    subst (λ (x : ListDecl). IsKindBuilt x.kind) same (kind_built first.kind parts.0)
+all_built (first ∷ ds) e (suc k) d is =
+    let parts = and_parts (is_built_kind first.kind) (list_all (λ d. is_built_kind d.kind) ds) e in
+    all_built ds parts.1 k d is
+
+pub kinds_built : (p : Plan) → is_built p ≡ true → AreKindsBuilt p.lists
+kinds_built p e = all_built p.lists (built_lists p e)

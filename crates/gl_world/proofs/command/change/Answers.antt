@@ -1,0 +1,106 @@
+use Rattle.std.proofs.Common.{◌∙◌, ◌++◌, ◌∷◌, [], sym, subst}
+use Rattle.std.specs.Prelude.{List}
+use Rattle.gl_lines.specs.declared.reply.Reply.TheVariants.{OutOfRange, TooLong}
+use Rattle.spec_whole_runs.proofs.Steps.{still_state}
+use Rattle.gl_graph.specs.declared.retreat.GraphUndo.{GraphUndo}
+use Rattle.gl_graph.specs.Graph.{Kept, state_of}
+use Rattle.gl_graph.specs.Waves.{IsRefused}
+use Rattle.gl_graph.proofs.Going.{contents_same_state}
+use Rattle.gl_world.specs.Back.{GoesOn}
+use Rattle.gl_world.proofs.Backs.{goes_like, goes_more, goes_back}
+use Rattle.gl_world.proofs.Commands.{deltas_still, deltas_joined, are_meeting}
+use Rattle.gl_world.proofs.command.change.Goals as goal
+
+pub returns-in_err-keep-in-Ok-clause-back : goal.returns-in_err-keep-in-Ok-clause-back
+returns-in_err-keep-in-Ok-clause-back g c =
+    let old = c.args.graph.now in
+    let undos = c.args.undos.now.items in
+    let e = c.in-Ok.ensures in
+    let k = c.in_err-keep-in-Ok.ensures in
+    let P : List GraphUndo → Type 0 = λ us. GoesOn undos old us c.keep.new.graph in
+    subst P (sym k.others) (goes_back undos c.in-Ok.field-0.undo old c.wave.new.self c.keep.new.graph e.undo e.room
+    k.back k.room)
+
+pub join_all-requires-clause-meet : goal.join_all-requires-clause-meet
+join_all-requires-clause-meet g c =
+    let old = c.args.graph.now in
+    let e = c.in-Ok.ensures in
+    are_meeting old.limit (state_of old) c.args.command.now c.args.deltas.now c.in-Ok.field-0.deltas
+    c.law.ensures.ordered e.moves c.requires.deltas e.told
+
+pub returns-in_err-join_all-in-Ok-clause-back : goal.returns-in_err-join_all-in-Ok-clause-back
+returns-in_err-join_all-in-Ok-clause-back g c =
+    let old = c.args.graph.now in
+    let undos = c.args.undos.now.items in
+    let e = c.in-Ok.ensures in
+    let k = c.in_ok-keep-in-Ok.ensures in
+    let P : List GraphUndo → Type 0 = λ us. GoesOn undos old us c.keep.new.graph in
+    let Q : Kept → Type 0 = λ now. GoesOn undos old (undos ++ c.in-Ok.field-0.undo ∷ []) now in
+    subst P (sym k.kept) (subst Q (sym k.same) (goes_more undos c.in-Ok.field-0.undo old c.wave.new.self c.law.ensures
+    e.undo e.room))
+
+pub returns-in_ok-join_all-in-Ok-clause-back : goal.returns-in_ok-join_all-in-Ok-clause-back
+returns-in_ok-join_all-in-Ok-clause-back g c =
+    let old = c.args.graph.now in
+    let undos = c.args.undos.now.items in
+    let e = c.in-Ok.ensures in
+    let k = c.in_ok-keep-in-Ok.ensures in
+    let P : List GraphUndo → Type 0 = λ us. GoesOn undos old us c.keep.new.graph in
+    let Q : Kept → Type 0 = λ now. GoesOn undos old (undos ++ c.in-Ok.field-0.undo ∷ []) now in
+    subst P (sym k.kept) (subst Q (sym k.same) (goes_more undos c.in-Ok.field-0.undo old c.wave.new.self c.law.ensures
+    e.undo e.room))
+
+pub returns-in_ok-join_all-in-Ok-clause-told : goal.returns-in_ok-join_all-in-Ok-clause-told
+returns-in_ok-join_all-in-Ok-clause-told g c =
+    let old = c.args.graph.now in
+    let e = c.in-Ok.ensures in
+    deltas_joined old.limit (state_of old) c.args.command.now c.args.deltas.now c.in-Ok.field-0.deltas
+    c.join_all.new.sofar c.law.ensures.ordered e.moves e.told c.in_ok-join_all-in-Ok.ensures
+
+pub returns-in-Err-OutOfRange-clause-back : goal.returns-in-Err-OutOfRange-clause-back
+returns-in-Err-OutOfRange-clause-back g c =
+    let e = c.in-Err-OutOfRange.ensures in
+    goes_like c.args.undos.now.items c.args.graph.now c.wave.new.self e.err e.room
+
+pub returns-in-Err-OutOfRange-clause-state : goal.returns-in-Err-OutOfRange-clause-state
+returns-in-Err-OutOfRange-clause-state g c =
+    let old = c.args.graph.now in
+    let e = c.in-Err-OutOfRange.ensures in
+    contents_same_state c.wave.new.self old e.err
+    ∙ sym (still_state old.limit (state_of old) c.args.command.now
+    (OutOfRange c.in-Err-OutOfRange.index c.in-Err-OutOfRange.len)
+    (subst (IsRefused old.limit (state_of old) c.args.command.now) c.in-Err-OutOfRange.field-0-is e.refused))
+
+pub returns-in-Err-OutOfRange-clause-told : goal.returns-in-Err-OutOfRange-clause-told
+returns-in-Err-OutOfRange-clause-told g c =
+    let old = c.args.graph.now in
+    deltas_still old.limit (state_of old) c.args.command.now (OutOfRange c.in-Err-OutOfRange.index
+    c.in-Err-OutOfRange.len) c.args.deltas.now
+    (subst (IsRefused old.limit (state_of old) c.args.command.now) c.in-Err-OutOfRange.field-0-is
+    c.in-Err-OutOfRange.ensures.refused)
+
+pub returns-in-Err-TooLong-clause-back : goal.returns-in-Err-TooLong-clause-back
+returns-in-Err-TooLong-clause-back g c =
+    let e = c.in-Err-TooLong.ensures in
+    goes_like c.args.undos.now.items c.args.graph.now c.wave.new.self e.err e.room
+
+pub returns-in-Err-TooLong-clause-state : goal.returns-in-Err-TooLong-clause-state
+returns-in-Err-TooLong-clause-state g c =
+    let old = c.args.graph.now in
+    let e = c.in-Err-TooLong.ensures in
+    contents_same_state c.wave.new.self old e.err
+    ∙ sym (still_state old.limit (state_of old) c.args.command.now (TooLong c.in-Err-TooLong.list c.in-Err-TooLong.len)
+    (subst (IsRefused old.limit (state_of old) c.args.command.now) c.in-Err-TooLong.field-0-is e.refused))
+
+pub returns-in-Err-TooLong-clause-told : goal.returns-in-Err-TooLong-clause-told
+returns-in-Err-TooLong-clause-told g c =
+    let old = c.args.graph.now in
+    deltas_still old.limit (state_of old) c.args.command.now (TooLong c.in-Err-TooLong.list c.in-Err-TooLong.len)
+    c.args.deltas.now
+    (subst (IsRefused old.limit (state_of old) c.args.command.now) c.in-Err-TooLong.field-0-is
+    c.in-Err-TooLong.ensures.refused)
+
+pub returns-in-Err-Memory-clause-back : goal.returns-in-Err-Memory-clause-back
+returns-in-Err-Memory-clause-back g c =
+    let e = c.in-Err-Memory.ensures in
+    goes_like c.args.undos.now.items c.args.graph.now c.wave.new.self e.err e.room

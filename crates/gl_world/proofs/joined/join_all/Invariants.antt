@@ -1,0 +1,5 @@
+use Rattle.gl_world.proofs.Joining.{JoinedTo}
+use Rattle.gl_world.proofs.joined.join_all.Given as goal
+
+abbrev pub invariant-loop-list : goal.invariant-loop-list
+invariant-loop-list l = JoinedTo l.initial.sofar l.initial.next l.list l.sofar l.next

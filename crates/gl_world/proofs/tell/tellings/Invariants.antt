@@ -1,8 +1,0 @@
-use Rattle.std.proofs.Common.{◌≡◌, ◌++◌, drop}
-use Rattle.gl_world.specs.Draft.{deltas_of}
-use Rattle.gl_world.specs.Told.{tellings_of, told_all}
-use Rattle.gl_world.proofs.tell.tellings.Given as goal
-
--- what was told, and what the listeners that are left are told, is the whole
-abbrev pub invariant-loop-listener : goal.invariant-loop-listener
-invariant-loop-listener l = tellings_of l.told.items ++ told_all l.listeners l.place (deltas_of l.deltas) (drop l.listener-index l.turn) ≡ told_all l.listeners l.place (deltas_of l.deltas) l.turn
