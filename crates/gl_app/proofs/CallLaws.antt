@@ -4,15 +4,15 @@ use Rattle.std.specs.Io.KnownBytes.{Appends, Consumes}
 use Rattle.gl_outside.specs.declared.gate.Actor.{Actor}
 use Rattle.gl_outside.specs.Sink.{AppendsFront}
 use Rattle.spec_plans.specs.Plan.{Plan}
-use Rattle.spec_whole_plans.specs.Canonical.{spelled_plan}
+use Rattle.spec_canonical.specs.Canonical.{spelled_plan}
 use Rattle.spec_plan_texts.specs.Text.{SpellsPlan}
 use Rattle.spec_plan_laws.proofs.Rewritten.{rewritten}
-use Rattle.spec_whole_runs.specs.Built.{is_built}
-use Rattle.spec_whole_runs.specs.Fits.{BadPlace, Fits}
-use Rattle.spec_texts.specs.Order.{AsksReplay}
-use Rattle.spec_whole_texts.specs.Words.{Request, check, replay, Asks, HaveNoForm}
-use Rattle.spec_whole_texts.specs.Report.{report}
-use Rattle.spec_whole_texts.specs.Answer.{Outcome, usage, too_large, faulty, circular, written, unbuilt, too_long, misfit, reported, ComesTo, no_form, large, a_fault, a_cycle, a_plan, answer_of, replayed, text_of_outcome, most_bytes}
+use Rattle.spec_runs.specs.Built.{is_built}
+use Rattle.spec_runs.specs.Fits.{BadPlace, Fits}
+use Rattle.spec_reports.specs.Order.{AsksReplay}
+use Rattle.spec_reports.specs.Words.{Request, check, replay, Asks, HaveNoForm}
+use Rattle.spec_reports.specs.Report.{report}
+use Rattle.spec_reports.specs.Answer.{Outcome, usage, too_large, faulty, circular, written, unbuilt, too_long, misfit, reported, ComesTo, no_form, large, a_fault, a_cycle, a_plan, answer_of, replayed, text_of_outcome, most_bytes}
 use Rattle.gl_app.specs.declared.status.Status.{Status}
 use Rattle.gl_app.specs.declared.status.Status.TheVariants.{Done, Usage, Plan as PlanStatus, Read, Write, Memory, Order, TooLarge, TooLong}
 use Rattle.gl_app.specs.declared.answer.Answer.{Answer}

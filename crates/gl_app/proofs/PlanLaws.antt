@@ -4,15 +4,15 @@ use Rattle.std.proofs.Common.{ℕ, ◌≤◌, List, sym, subst, arith}
 use Rattle.gl_outside.specs.declared.gate.Actor.{Actor}
 use Rattle.spec_plans.specs.Plan.{Plan}
 use Rattle.spec_states.specs.Shown.{EachShowsItsView}
-use Rattle.spec_whole_plans.specs.WellFormed.{IsWellFormed}
-use Rattle.spec_whole_plans.proofs.Sound.{sound_lines_well_formed}
+use Rattle.spec_canonical.specs.WellFormed.{IsWellFormed}
+use Rattle.spec_canonical.proofs.Sound.{sound_lines_well_formed}
 use Rattle.spec_plan_texts.specs.Text.{SpellsPlan}
 use Rattle.spec_plan_laws.proofs.Good.{IsGood, made_good}
 use Rattle.spec_plan_laws.proofs.Read.{read_within}
-use Rattle.spec_whole_runs.specs.Laws.{EachHears}
-use Rattle.spec_whole_runs.specs.Run.{run}
-use Rattle.spec_whole_runs.proofs.Hearing.{hears_well_formed}
-use Rattle.spec_whole_runs.proofs.Ordered.{well_formed_ordered, views_of_run}
+use Rattle.spec_runs.specs.Laws.{EachHears}
+use Rattle.spec_runs.specs.Run.{run}
+use Rattle.spec_runs.proofs.Hearing.{hears_well_formed}
+use Rattle.spec_runs.proofs.Ordered.{well_formed_ordered, views_of_run}
 
 pub spelled_plan_formed : (bytes : List ℕ) (p : Plan) → SpellsPlan bytes p → IsWellFormed p
 spelled_plan_formed bytes p spells =

@@ -3,18 +3,18 @@ use Rattle.std.proofs.Common.{◌≡◌, ◌∙◌, ℕ, ◌≤◌, List, Option
 use Rattle.gl_outside.specs.declared.gate.Actor.{Actor}
 use Rattle.gl_lines.specs.declared.reply.Reply.{Reply}
 use Rattle.gl_lines.specs.declared.reply.Reply.TheVariants as reply
-use Rattle.gl_whole_plan.specs.declared.fault.PlanFault.{PlanFault}
-use Rattle.gl_whole_plan.specs.declared.fault.PlanFault.TheVariants as fault
+use Rattle.gl_plan.specs.declared.fault.PlanFault.{PlanFault}
+use Rattle.gl_plan.specs.declared.fault.PlanFault.TheVariants as fault
 use Rattle.gl_plan_texts.specs.Spelled.{fault_at, IsFault}
 use Rattle.spec_plans.specs.Plan.{Plan}
 use Rattle.spec_plan_texts.specs.Text.{SpellsPlan}
 use Rattle.spec_states.specs.State.{opening}
 use Rattle.spec_states.specs.Step.{too_long as first_too_long}
-use Rattle.spec_whole_runs.specs.Built.{is_built}
-use Rattle.spec_whole_runs.specs.Fits.{BadPlace, Fits, first_bad_place}
-use Rattle.spec_whole_texts.specs.Report.{report, list_name}
-use Rattle.spec_whole_texts.specs.Words.{Request, check, replay, Asks}
-use Rattle.spec_whole_texts.specs.Answer.{Outcome, faulty, circular, unbuilt, too_long, misfit, reported, taken, opened, replayed, answer_of, a_fault, a_cycle, a_plan, most_bytes}
+use Rattle.spec_runs.specs.Built.{is_built}
+use Rattle.spec_runs.specs.Fits.{BadPlace, Fits, first_bad_place}
+use Rattle.spec_reports.specs.Report.{report, list_name}
+use Rattle.spec_reports.specs.Words.{Request, check, replay, Asks}
+use Rattle.spec_reports.specs.Answer.{Outcome, faulty, circular, unbuilt, too_long, misfit, reported, taken, opened, replayed, answer_of, a_fault, a_cycle, a_plan, most_bytes}
 use Rattle.gl_app.specs.declared.answer.Answer.{Answer}
 use Rattle.gl_app.specs.Status.{status_of}
 use Rattle.gl_app.specs.Answer.{status_at, IsOf, AnswersFault, AnswersBytes}

@@ -7,8 +7,8 @@ use Rattle.std.proofs.lemmas.Option.{same_Some, none-some}
 use Rattle.std.proofs.lemmas.Slice.Eq.{bytes_eq-Decides}
 use Rattle.gl_outside.specs.declared.gate.Actor.{Actor}
 use Rattle.gl_outside.specs.declared.gate.Actor.TheVariants.{Writer, Proxy}
-use Rattle.spec_texts.specs.Order.{spelled_actor, spelled_rest, spelled_order, IsActor, AsksReplay}
-use Rattle.spec_whole_texts.specs.Words.{Request, check, replay, Asks, HaveNoForm}
+use Rattle.spec_reports.specs.Order.{spelled_actor, spelled_rest, spelled_order, IsActor, AsksReplay}
+use Rattle.spec_reports.specs.Words.{Request, check, replay, Asks, HaveNoForm}
 use Rattle.gl_text.specs.Numbers.{index_in}
 use Rattle.spec_texts.specs.Cuts.{cut, with_front}
 use Rattle.gl_text.proofs.CutLaws.{longer, lacks}

@@ -1,10 +1,10 @@
 -- What the answers of the code stand for.
 use Rattle.std.specs.Prelude.{◌≡◌, ℕ, List}
-use Rattle.gl_whole_plan.specs.declared.fault.PlanFault.{PlanFault}
-use Rattle.gl_whole_plan.specs.declared.fault.PlanFault.TheVariants as fault
+use Rattle.gl_plan.specs.declared.fault.PlanFault.{PlanFault}
+use Rattle.gl_plan.specs.declared.fault.PlanFault.TheVariants as fault
 use Rattle.gl_plan_texts.specs.Spelled.{fault_at}
-use Rattle.spec_whole_texts.specs.Words.{Request, Asks}
-use Rattle.spec_whole_texts.specs.Answer.{Outcome, usage, too_large, faulty, circular, unbuilt, text_of_outcome, ComesTo}
+use Rattle.spec_reports.specs.Words.{Request, Asks}
+use Rattle.spec_reports.specs.Answer.{Outcome, usage, too_large, faulty, circular, unbuilt, text_of_outcome, ComesTo}
 use Rattle.gl_app.specs.declared.status.Status.{Status}
 use Rattle.gl_app.specs.declared.status.Status.TheVariants as status
 use Rattle.gl_app.specs.declared.answer.Answer.{Answer}

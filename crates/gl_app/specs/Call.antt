@@ -5,16 +5,16 @@ use Rattle.gl_outside.specs.declared.gate.Actor.{Actor}
 use Rattle.gl_outside.specs.Sink.{AppendsFront}
 use Rattle.spec_plans.specs.Plan.{Plan}
 use Rattle.spec_states.specs.Shown.{EachShowsItsView}
-use Rattle.spec_whole_plans.specs.Canonical.{spelled_plan}
+use Rattle.spec_canonical.specs.Canonical.{spelled_plan}
 use Rattle.spec_plan_texts.specs.Text.{SpellsPlan}
 use Rattle.spec_plan_laws.specs.Short.{HasShortLines}
-use Rattle.spec_whole_runs.specs.Built.{is_built}
-use Rattle.spec_whole_runs.specs.Fits.{Fits}
-use Rattle.spec_whole_runs.specs.Laws.{EachHears}
-use Rattle.spec_whole_runs.specs.Run.{run}
-use Rattle.spec_whole_texts.specs.Words.{Request}
-use Rattle.spec_whole_texts.specs.Report.{report}
-use Rattle.spec_whole_texts.specs.Answer.{Outcome, ComesTo, text_of_outcome, most_bytes}
+use Rattle.spec_runs.specs.Built.{is_built}
+use Rattle.spec_runs.specs.Fits.{Fits}
+use Rattle.spec_runs.specs.Laws.{EachHears}
+use Rattle.spec_runs.specs.Run.{run}
+use Rattle.spec_reports.specs.Words.{Request}
+use Rattle.spec_reports.specs.Report.{report}
+use Rattle.spec_reports.specs.Answer.{Outcome, ComesTo, text_of_outcome, most_bytes}
 use Rattle.gl_app.specs.declared.status.Status.{Status}
 use Rattle.gl_app.specs.declared.status.Status.TheVariants.{Done, Usage, Plan as PlanStatus, Read, Write, Memory, Order, TooLarge, TooLong}
 use Rattle.gl_app.specs.declared.answer.Answer.{Answer}

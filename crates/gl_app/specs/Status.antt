@@ -2,7 +2,7 @@
 use Rattle.std.specs.Prelude.{ℕ}
 use Rattle.gl_app.specs.declared.status.Status.{Status}
 use Rattle.gl_app.specs.declared.status.Status.TheVariants.{Done, Usage, Plan, Read, Write, Memory, Order, TooLarge, TooLong}
-use Rattle.spec_whole_texts.specs.Answer.{Outcome, usage, too_large, faulty, circular, written, unbuilt, too_long, misfit, reported}
+use Rattle.spec_reports.specs.Answer.{Outcome, usage, too_large, faulty, circular, written, unbuilt, too_long, misfit, reported}
 
 -- the status of the process
 abbrev pub code_of : Status → ℕ

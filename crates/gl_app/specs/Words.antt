@@ -5,7 +5,7 @@ use Rattle.gl_outside.specs.declared.gate.Actor.{Actor}
 use Rattle.gl_outside.specs.declared.gate.Actor.TheVariants.{Writer, Proxy}
 use Rattle.gl_text.specs.Numbers.{index_in}
 use Rattle.spec_texts.specs.Cuts.{with_front}
-use Rattle.spec_whole_texts.specs.Words.{Request as RequestData, check, replay}
+use Rattle.spec_reports.specs.Words.{Request as RequestData, check, replay}
 use Rattle.gl_app.specs.declared.words.Request.{Request}
 use Rattle.gl_app.specs.declared.words.Request.TheVariants.{Check, Replay}
 

@@ -3,8 +3,8 @@
 ghost use Rattle.std.specs.Prelude.{◌≡◌, ◌+◌, ◌⊎◌, ℕ, List, length};
 ghost use Rattle.gl_outside.specs.declared.gate.Actor.{Actor};
 ghost use Rattle.gl_outside.specs.Faults.{Rose};
-ghost use Rattle.spec_texts.specs.Order.{AsksReplay};
-ghost use Rattle.spec_whole_texts.specs.Words.{Asks, HaveNoForm, check};
+ghost use Rattle.spec_reports.specs.Order.{AsksReplay};
+ghost use Rattle.spec_reports.specs.Words.{Asks, HaveNoForm, check};
 ghost use Rattle.gl_app.specs.Answer.{text_at};
 ghost use Rattle.gl_app.specs.Call.{Answered, IsAnswer, ReportsRun, WritesPlan, HasRead, IsUsage, IsAhead, MostText, Gives};
 

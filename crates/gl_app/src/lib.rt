@@ -1,5 +1,5 @@
 //! The top call of the program: it reads the words, takes the source whole, and gives the sink the text of what it
-//! came to. What that is for which words and bytes is defined in `spec_whole_texts`.
+//! came to. What that is for which words and bytes is defined in `spec_reports`.
 //! A text is made whole before the sink is given anything.
 #![tactic(auto)]
 

@@ -2,8 +2,8 @@
 
 ghost use Rattle.std.specs.Prelude.{◌≡◌, ◌≤◌, length, IfOk, IsErrOf};
 ghost use Rattle.gl_outside.specs.Faults.{Rose};
-ghost use Rattle.spec_whole_texts.specs.Words.{HaveNoForm};
-ghost use Rattle.spec_whole_texts.specs.Answer.{most_bytes};
+ghost use Rattle.spec_reports.specs.Words.{HaveNoForm};
+ghost use Rattle.spec_reports.specs.Answer.{most_bytes};
 ghost use Rattle.gl_app.specs.Answer.{AnswersBytes, status_at};
 ghost use Rattle.gl_app.specs.Call.{AnswersRequest, AnswersWords, HasRead, status_after, IsUsage, IsBehindAll};
 ghost use Rattle.gl_app.specs.Words.{request_of};

@@ -1,7 +1,7 @@
 //! The entries of an order, taken one after another.
 
 ghost use Rattle.std.specs.Prelude.{◌≡◌, ◌<◌, [], IfOk, IfNone, option_map};
-ghost use Rattle.spec_whole_runs.specs.Fits.{reason_at, first_bad_place};
+ghost use Rattle.spec_runs.specs.Fits.{reason_at, first_bad_place};
 ghost use Rattle.gl_world.specs.History.{with_entry};
 ghost use Rattle.gl_app.specs.BadPlace.{reason_of, bad_place_of};
 

@@ -1,11 +1,11 @@
 //! What the requests for a plan come to.
 
 ghost use Rattle.std.specs.Prelude.{◌≡◌, ◌≤◌, [], IfOk};
-ghost use Rattle.spec_whole_plans.specs.WellFormed.{IsWellFormed};
+ghost use Rattle.spec_canonical.specs.WellFormed.{IsWellFormed};
 ghost use Rattle.spec_states.specs.State.{opening};
 ghost use Rattle.spec_states.specs.Step.{too_long as first_too_long};
-ghost use Rattle.spec_whole_runs.specs.Fits.{first_bad_place};
-ghost use Rattle.spec_whole_texts.specs.Answer.{answer_of, replayed, opened, taken};
+ghost use Rattle.spec_runs.specs.Fits.{first_bad_place};
+ghost use Rattle.spec_reports.specs.Answer.{answer_of, replayed, opened, taken};
 ghost use Rattle.gl_world.specs.World.{CanOpen};
 ghost use Rattle.gl_app.specs.Answer.{IsOf, AnswersFault};
 ghost use Rattle.gl_app.specs.Words.{request_of};

@@ -1,14 +1,14 @@
 //! The texts of what a call may come to.
 
 ghost use Rattle.std.specs.Prelude.{◌≡◌, IfOk};
-ghost use Rattle.spec_whole_texts.specs.Answer.{faulty, circular, too_long, misfit, text_of_outcome, reason_text, kind_text};
-ghost use Rattle.spec_whole_texts.specs.Report.{list_name};
+ghost use Rattle.spec_reports.specs.Answer.{faulty, circular, too_long, misfit, text_of_outcome, reason_text, kind_text};
+ghost use Rattle.spec_reports.specs.Report.{list_name};
 ghost use Rattle.gl_plan_texts.specs.Spelled.{fault_at};
 ghost use Rattle.gl_app.specs.BadPlace.{reason_of, bad_place_of};
 
 use crate::replaying::{BadPlace, Reason};
 use gl_lines::{ListDecl, PlanKind};
-use gl_types::Name;
+use gl_names::Name;
 use gl_value::Bytes;
 use itoa::Buffer;
 use std::alloc::{AllocError, Global};

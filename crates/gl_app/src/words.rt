@@ -1,7 +1,7 @@
 //! The words of a call.
 
 ghost use Rattle.std.specs.Prelude.{◌≡◌, [], ◌∷◌, IfOk, IfSome, IfNone, option_map};
-ghost use Rattle.spec_whole_texts.specs.Words.{Asks, HaveNoForm, replay};
+ghost use Rattle.spec_reports.specs.Words.{Asks, HaveNoForm, replay};
 ghost use Rattle.gl_app.specs.Words.{actor_in, pieces, actors_in, order_in, asked, entries_of, request_of};
 
 use gl_outside::Actor;

@@ -10,10 +10,11 @@ use Rattle.spec_order.proofs.Members.{Contains-cons_cases}
 use Rattle.gl_lines.specs.declared.plan.Command.{Command}
 use Rattle.gl_lines.specs.declared.reply.Reply.TheVariants as reply
 use Rattle.gl_delta.specs.Told.{Told}
+use Rattle.spec_plans.specs.Plan.{origin}
 use Rattle.spec_states.specs.State.{State, own_at, turns}
 use Rattle.spec_states.specs.Laws.{IsOrdered}
 use Rattle.spec_states.specs.Shown.{Table, shows_in, shown, table_of}
-use Rattle.spec_states.specs.Wave.{origin, wave}
+use Rattle.spec_states.specs.Wave.{wave}
 use Rattle.spec_states.specs.Step.{first_longer, refusal, too_long, unmoved}
 use Rattle.spec_states.proofs.Views.{wave_ordered}
 use Rattle.gl_graph.specs.declared.node.Node.{Node}

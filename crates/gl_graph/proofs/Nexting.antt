@@ -8,9 +8,10 @@ use Rattle.spec_lists.specs.Leads.{applied, IsDelta}
 use Rattle.gl_lines.specs.declared.plan.Command.{Command}
 use Rattle.gl_delta.specs.Told.{Told}
 use Rattle.gl_filter.proofs.Cases.{leads_to, old_again}
+use Rattle.spec_plans.specs.Plan.{origin}
 use Rattle.spec_states.specs.State.{State, own_at}
 use Rattle.spec_states.specs.Shown.{shown}
-use Rattle.spec_states.specs.Wave.{origin, wave, wave_deltas, delta_in}
+use Rattle.spec_states.specs.Wave.{wave, wave_deltas, delta_in}
 use Rattle.spec_states.specs.Step.{refusal}
 use Rattle.spec_states.proofs.Views.{length-table_of, wave_ordered}
 use Rattle.spec_states.proofs.Waves.{wave_leads}

@@ -7,9 +7,10 @@ use Rattle.spec_value.specs.Tree.{Tree}
 use Rattle.gl_lines.specs.declared.plan.Command.{Command}
 use Rattle.gl_lines.specs.declared.reply.Reply.TheVariants as reply
 use Rattle.spec_order.specs.Turns.{turns as turns_by}
+use Rattle.spec_plans.specs.Plan.{origin}
 use Rattle.spec_states.specs.State.{Own, State, source, filtering, ranging, mapping, unbuilt, own_at, edges_of, turns}
 use Rattle.spec_states.specs.Shown.{view, shown, table_of}
-use Rattle.spec_states.specs.Wave.{origin, kept_after, wave}
+use Rattle.spec_states.specs.Wave.{kept_after, wave}
 use Rattle.spec_states.specs.Step.{contents_len, first_longer, refusal, too_long, unmoved}
 use Rattle.spec_states.proofs.Views.{views_of_state, wave_edges, wave_ordered}
 use Rattle.gl_graph.specs.declared.node.Node.{Node}

@@ -9,10 +9,11 @@ use Rattle.spec_lists.specs.Leads.{applied}
 use Rattle.gl_lines.specs.declared.plan.Command.{Command}
 use Rattle.gl_delta.specs.Told.{Told}
 use Rattle.gl_filter.proofs.Cases.{old_again}
+use Rattle.spec_plans.specs.Plan.{origin}
 use Rattle.spec_states.specs.State.{Own, State, inputs, own_at}
 use Rattle.spec_states.specs.Laws.{IsOrdered}
 use Rattle.spec_states.specs.Shown.{view, shown}
-use Rattle.spec_states.specs.Wave.{origin, kept_after, change, wave, wave_deltas, delta_in, follow}
+use Rattle.spec_states.specs.Wave.{kept_after, change, wave, wave_deltas, delta_in, follow}
 use Rattle.spec_states.specs.Step.{refusal}
 use Rattle.spec_states.proofs.Views.{view_local, views_of_state, wave_ordered}
 use Rattle.gl_graph.specs.declared.kernel.Kernel.{Kernel}

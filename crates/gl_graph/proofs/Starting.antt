@@ -18,7 +18,7 @@ use Rattle.gl_lines.specs.declared.plan.ListKind.TheVariants as kinds
 use Rattle.gl_lines.specs.declared.reply.Reply.{Reply}
 use Rattle.gl_lines.specs.declared.reply.Reply.TheVariants as reply
 use Rattle.spec_plans.specs.Plan.{Plan, inputs_of, edges_from}
-use Rattle.gl_whole_plan.specs.Whole.{IsWhole}
+use Rattle.gl_plan.specs.Whole.{IsWhole}
 use Rattle.spec_states.specs.State.{State, inputs, opening_of, own_at, edges_of, turns}
 use Rattle.spec_states.specs.Shown.{Table, view, shown, shows_in, table_of}
 use Rattle.spec_states.specs.Step.{first_longer, too_long}

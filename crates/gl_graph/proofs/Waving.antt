@@ -14,9 +14,10 @@ use Rattle.spec_views.specs.Range.{range_follow, range_change}
 use Rattle.spec_views.specs.Function.{function_follow, function_change}
 use Rattle.gl_lines.specs.declared.plan.Command.{Command}
 use Rattle.gl_lines.specs.declared.plan.Command.TheVariants as c
+use Rattle.spec_plans.specs.Plan.{origin}
 use Rattle.spec_states.specs.State.{Own, State, source, filtering, ranging, mapping, unbuilt, inputs, own_at}
 use Rattle.spec_states.specs.Shown.{shown}
-use Rattle.spec_states.specs.Wave.{delta_in, origin, matcher_after, bounds_after, func_after, kept_after, wave, change, follow, wave_delta, wave_deltas}
+use Rattle.spec_states.specs.Wave.{delta_in, matcher_after, bounds_after, func_after, kept_after, wave, change, follow, wave_delta, wave_deltas}
 use Rattle.spec_states.specs.Step.{contents_len, out_of_range, past_end, refusal, too_long, unmoved}
 use Rattle.spec_states.specs.Laws.{IsOrdered}
 use Rattle.spec_states.proofs.Settling.{set_same, set_other}

@@ -8,9 +8,10 @@ use Rattle.gl_lines.specs.declared.reply.Reply.TheVariants as reply
 use Rattle.gl_delta.specs.Told.{Told}
 use Rattle.gl_source.specs.declared.fault.EditFault.{EditFault}
 use Rattle.gl_source.specs.declared.fault.EditFault.TheVariants as f
+use Rattle.spec_plans.specs.Plan.{origin}
 use Rattle.spec_states.specs.State.{Own, State, own_at}
 use Rattle.spec_states.specs.Shown.{shown}
-use Rattle.spec_states.specs.Wave.{origin, kept_after, change, follow, wave, wave_deltas, delta_in}
+use Rattle.spec_states.specs.Wave.{kept_after, change, follow, wave, wave_deltas, delta_in}
 use Rattle.spec_states.specs.Step.{contents_len, refusal}
 use Rattle.gl_graph.specs.declared.node.Node.{Node}
 use Rattle.gl_graph.specs.declared.kernel.Kernel.{Kernel}

@@ -13,8 +13,8 @@ use crate::fault::BuildFault;
 use crate::node::Node;
 use crate::seen::{element, shown_len};
 use crate::start::{open_all, turns_of};
+use gl_plan::Plan;
 use gl_value::Value;
-use gl_whole_plan::Plan;
 use std::alloc::Global;
 use std::marker::Model;
 

@@ -4,9 +4,9 @@ ghost use Rattle.gl_graph.specs.Opening.{IsKindBuilt, AreKindsBuilt};
 use crate::{BuildFault, Graph};
 use gl_lang::{Bounds, Func, Matcher, Path, Test};
 use gl_lines::{Line, Lines, ListDecl, ListKind, Named, NumberedLine};
-use gl_types::Name;
+use gl_names::Name;
+use gl_plan::Plan;
 use gl_value::{Items, Text, Value};
-use gl_whole_plan::Plan;
 use std::alloc::Global;
 use std::process::Abort;
 

@@ -3,7 +3,7 @@
 ghost use Rattle.std.specs.Prelude.{◌≡◌, ◌≤◌, ℕ, map, Some, None, IfOk, IfErr, OnErr};
 ghost use Rattle.spec_lists.specs.Piece.{turned};
 ghost use Rattle.spec_lists.specs.Leads.{LeadsTo, applied};
-ghost use Rattle.spec_states.specs.Wave.{origin};
+ghost use Rattle.spec_plans.specs.Plan.{origin};
 ghost use Rattle.gl_graph.specs.Nodes.{own_of, input_of, shown_by, OnInput, StandsFor, IsPlaced, AreSettled};
 ghost use Rattle.gl_graph.specs.Commands.{Suits};
 ghost use Rattle.gl_graph.specs.Graph.{IsLimited};

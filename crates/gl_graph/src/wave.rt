@@ -1,8 +1,9 @@
 //! What a command does to the lists.
 
 ghost use Rattle.std.specs.Prelude.{◌≡◌, ◌<◌, length, None, IfOk, IfErr, OnOk, OnErr};
+ghost use Rattle.spec_plans.specs.Plan.{origin};
 ghost use Rattle.spec_states.specs.State.{own_at};
-ghost use Rattle.spec_states.specs.Wave.{origin, wave};
+ghost use Rattle.spec_states.specs.Wave.{wave};
 ghost use Rattle.spec_states.specs.Step.{unmoved};
 ghost use Rattle.gl_graph.specs.Graph.{state_of};
 ghost use Rattle.gl_graph.specs.Commands.{Suits};

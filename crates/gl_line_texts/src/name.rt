@@ -6,8 +6,8 @@ ghost use Rattle.spec_syntax.specs.Name.{named, unnamed, read_name};
 ghost use Rattle.spec_value.specs.Name.{is_lower, is_name_byte, is_name};
 ghost use Rattle.gl_syntax.specs.Stop.{Reads};
 
+use gl_names::Name;
 use gl_syntax::{Stop, text_of};
-use gl_types::Name;
 use std::alloc::Global;
 
 /// The name and the bytes behind it. It takes memory for the name.

@@ -1,6 +1,6 @@
 //! Names, as they stand in lines.
 
-use gl_types::Name;
+use gl_names::Name;
 use gl_value::Items;
 
 /// A name in a line. The column is that of its first byte, in bytes from 1 on; it says nothing of what the line means.

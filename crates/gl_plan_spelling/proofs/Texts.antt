@@ -12,8 +12,8 @@ use Rattle.gl_lines.specs.declared.plan.ListKind.TheVariants as kinds
 use Rattle.gl_lines.specs.declared.plan.ListenerDecl.{ListenerDecl}
 use Rattle.gl_lines.specs.declared.plan.Command.{Command}
 use Rattle.spec_plans.specs.Plan.{Plan}
-use Rattle.spec_whole_plans.specs.Canonical.{unplaced_name, names_of_lists, names_of_listeners, list_line, row_lines, lines_of_list, listener_line, command_line, lines_of_section, lines_of_writer, spelled_plan}
-use Rattle.gl_plan_spelling.specs.Texts.{names_of_decls, listener_names, name_at, ended, rows_text, list_text, listener_text, section_text, writer_text, front_text}
+use Rattle.spec_canonical.specs.Canonical.{ended, unplaced_name, names_of_lists, names_of_listeners, list_line, row_lines, lines_of_list, listener_line, command_line, lines_of_section, lines_of_writer, spelled_plan}
+use Rattle.gl_plan_spelling.specs.Texts.{names_of_decls, listener_names, name_at, rows_text, list_text, listener_text, section_text, writer_text, front_text}
 
 -- a name by the declaration of its list or listener
 pub list_at : (ds : List ListDecl) (k : ℕ)

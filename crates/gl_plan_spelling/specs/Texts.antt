@@ -8,8 +8,7 @@ use Rattle.gl_lines.specs.declared.plan.ListKind.{ListKind}
 use Rattle.gl_lines.specs.declared.plan.ListKind.TheVariants as kinds
 use Rattle.gl_lines.specs.declared.plan.ListenerDecl.{ListenerDecl}
 use Rattle.gl_lines.specs.declared.plan.Command.{Command}
-use Rattle.spec_lines.specs.Spelled.{spelled_line}
-use Rattle.spec_whole_plans.specs.Canonical.{unplaced_name, list_line, listener_line, command_line}
+use Rattle.spec_canonical.specs.Canonical.{ended, unplaced_name, list_line, listener_line, command_line}
 
 -- the names of lists, and those of listeners
 abbrev pub names_of_decls : List ListDecl → List (List ℕ)
@@ -27,10 +26,6 @@ spaced_name names k = 32 ∷ name_at names k
 
 abbrev pub name_behind_comma : List (List ℕ) → ℕ → List ℕ
 name_behind_comma names k = 44 ∷ name_at names k
-
--- a line with its line feed
-abbrev pub ended : Line → List ℕ
-ended l = spelled_line l ++ codes "\n"
 
 abbrev pub row_text : List ℕ → Tree → List ℕ
 row_text name row = ended (line.Row (unplaced_name name) row)

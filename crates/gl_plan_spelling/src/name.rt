@@ -1,7 +1,7 @@
 //! Names by their numbers.
 
 ghost use Rattle.std.specs.Prelude.{◌≡◌, ◌++◌, map, OnOk};
-ghost use Rattle.spec_whole_plans.specs.Canonical.{named};
+ghost use Rattle.spec_canonical.specs.Canonical.{named};
 ghost use Rattle.spec_lines.specs.Spelled.{spelled_names, spelled_may, spelled_after, spelled_others};
 ghost use Rattle.gl_plan_spelling.specs.Texts.{names_of_decls, listener_names, name_at, spaced_name, name_behind_comma};
 

@@ -3,18 +3,18 @@
 ghost use Rattle.std.specs.Prelude.{◌≡◌, ◌<◌, ◌++◌, ℕ, List, codes, flat_map, length, OnOk, OnErr};
 ghost use Rattle.gl_lines.specs.declared.line.Line.TheVariants as line;
 ghost use Rattle.spec_plans.specs.Plan.{sections_of};
-ghost use Rattle.spec_whole_plans.specs.Canonical.{names_of_lists, spelled_plan};
+ghost use Rattle.spec_canonical.specs.Canonical.{ended, names_of_lists, spelled_plan};
 ghost use Rattle.spec_plan_texts.specs.Text.{SpellsPlan};
 ghost use Rattle.spec_plan_laws.specs.Short.{HasShortLines};
-ghost use Rattle.gl_plan_spelling.specs.Texts.{ended, front_text, writer_text, section_text};
+ghost use Rattle.gl_plan_spelling.specs.Texts.{front_text, writer_text, section_text};
 
 use crate::command::add_section;
 use crate::list::add_lists;
 use crate::listener::add_listeners;
 use gl_line_spelling::add_limit;
 use gl_lines::{ListDecl, ListenerDecl};
+use gl_plan::Plan;
 use gl_syntax::{Bytes, Memory};
-use gl_whole_plan::Plan;
 use std::alloc::Global;
 
 /// Adds the one text of the plan; where memory runs out the bytes are as before. It takes memory for the text beside

@@ -18,8 +18,8 @@ use Rattle.gl_lines.specs.declared.line.Line.{Line}
 use Rattle.gl_lines.specs.declared.line.NumberedLine.{NumberedLine}
 use Rattle.gl_lines.specs.declared.fault.PlanKind.{PlanKind}
 use Rattle.gl_lines.specs.declared.fault.PlanKind.TheVariants.{Place, Many, Block, LongLine, Form}
-use Rattle.gl_plans.specs.Before.{StandsBehind}
-use Rattle.gl_plans.specs.declared.placing.Before.{Before}
+use Rattle.gl_plan_faults.specs.Before.{StandsBehind}
+use Rattle.gl_plan_faults.specs.declared.placing.Before.{Before}
 use Rattle.gl_plan_texts.specs.declared.reading.Reading.{Reading}
 use Rattle.gl_plan_texts.specs.declared.stop.Stop.{Stop}
 use Rattle.gl_plan_texts.specs.declared.stop.Stop.TheVariants.{Fault, Memory}

@@ -13,9 +13,9 @@ use Rattle.spec_plans.specs.Plan.{Plan}
 use Rattle.spec_plans.specs.Cycles.{IsAcyclic}
 use Rattle.spec_plan_texts.specs.Reading.{all_read, stopped, outside, Comes}
 use Rattle.spec_plan_texts.specs.Text.{SpellsPlan, no_utf8, no_header, in_line, in_names, place_behind}
-use Rattle.gl_whole_plan.specs.Fault.{IsFaultOf}
-use Rattle.gl_whole_plan.specs.declared.fault.PlanFault.{PlanFault}
-use Rattle.gl_whole_plan.specs.declared.fault.PlanFault.TheVariants.{At, Cycle, Memory}
+use Rattle.gl_plan.specs.Fault.{IsFaultOf}
+use Rattle.gl_plan.specs.declared.fault.PlanFault.{PlanFault}
+use Rattle.gl_plan.specs.declared.fault.PlanFault.TheVariants.{At, Cycle, Memory}
 use Rattle.gl_plan_texts.specs.Spelled.{IsFault, IsHeader, LacksHeader, Makes, FailsBehind, IsPlaceFault}
 use Rattle.gl_plan_texts.proofs.Going.{rest_text}
 

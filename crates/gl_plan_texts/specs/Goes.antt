@@ -6,7 +6,7 @@ use Rattle.gl_lines.specs.declared.line.Line.{Line}
 use Rattle.gl_lines.specs.declared.line.NumberedLine.{NumberedLine}
 use Rattle.gl_syntax.specs.declared.stop.ReadFault.{ReadFault}
 use Rattle.gl_syntax.specs.declared.stop.ReadFault.TheVariants as read
-use Rattle.gl_plans.specs.Before.{StandsBehind}
+use Rattle.gl_plan_faults.specs.Before.{StandsBehind}
 use Rattle.gl_plan_texts.specs.declared.reading.Reading.{Reading}
 use Rattle.gl_plan_texts.specs.declared.stop.Stop.{Stop}
 use Rattle.gl_plan_texts.specs.declared.stop.Stop.TheVariants.{Fault, Memory}

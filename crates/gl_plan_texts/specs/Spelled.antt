@@ -11,8 +11,8 @@ use Rattle.spec_plans.specs.Plan.{Plan}
 use Rattle.spec_plans.specs.Cycles.{IsAcyclic, IsCycleOf}
 use Rattle.spec_plan_texts.specs.Reading.{all_read, stopped, outside, Comes}
 use Rattle.spec_plan_texts.specs.Text.{FirstFault, SpellsCycle}
-use Rattle.gl_whole_plan.specs.declared.fault.PlanFault.{PlanFault}
-use Rattle.gl_whole_plan.specs.declared.fault.PlanFault.TheVariants.{At, Cycle, Memory}
+use Rattle.gl_plan.specs.declared.fault.PlanFault.{PlanFault}
+use Rattle.gl_plan.specs.declared.fault.PlanFault.TheVariants.{At, Cycle, Memory}
 
 abbrev pub fault_at : ℕ → ℕ → PlanKind → FaultAt
 fault_at line column kind = record { line = line; column = column; kind = kind }

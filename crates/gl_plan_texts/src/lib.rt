@@ -9,7 +9,7 @@ mod stop;
 #[cfg(test)]
 mod tests;
 
-pub use gl_whole_plan::{Plan, PlanFault};
+pub use gl_plan::{Plan, PlanFault};
 pub use plan::read_plan;
 pub use reading::read_lines;
 pub use stop::Stop;

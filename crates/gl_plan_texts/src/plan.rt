@@ -8,8 +8,8 @@ ghost use Rattle.gl_plan_texts.specs.Spelled.{IsFault, IsHeader, LacksHeader, Ma
 use crate::reading::read_lines;
 use crate::stop::Stop;
 use gl_lines::PlanKind;
+use gl_plan::{Plan, PlanFault};
 use gl_text::next_line;
-use gl_whole_plan::{Plan, PlanFault};
 use std::alloc::Global;
 
 /// The plan that the bytes spell, or their first fault: by its line and column, or as the names of a cycle. It goes a few

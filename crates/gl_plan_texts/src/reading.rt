@@ -10,10 +10,10 @@ use crate::block::with_block;
 use crate::stop::{Stop, fault};
 use gl_line_texts::read_line;
 use gl_lines::{Line, Lines, Named, NumberedLine, PlanKind};
-use gl_plans::Before;
+use gl_names::Duplicate;
+use gl_plan_faults::Before;
 use gl_syntax::ReadFault;
 use gl_text::next_line;
-use gl_types::Duplicate;
 use gl_value::Items;
 use std::alloc::{AllocError, Global};
 

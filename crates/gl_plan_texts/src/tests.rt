@@ -2,8 +2,8 @@
 
 use crate::read_plan;
 use gl_lines::{ListKind, PlanKind};
+use gl_plan::{Names, Plan, PlanFault};
 use gl_value::{Value, ValueShape};
-use gl_whole_plan::{Names, Plan, PlanFault};
 use std::test::Fail;
 
 /// A text, and the line, the column and the kind of its first fault.

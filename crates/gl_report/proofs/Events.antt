@@ -2,7 +2,7 @@
 use Rattle.std.proofs.Common.{◌≡◌, ◌∙◌, ℕ, ◌++◌, List, ◌∷◌, ap, sym, append_assoc, append-nil}
 use Rattle.std.specs.Prelude.{Bool, true, false, codes}
 use Rattle.spec_lists.specs.Changes.{Change}
-use Rattle.spec_texts.specs.Report.{change_text, other_changes, changes_text}
+use Rattle.spec_reports.specs.Event.{change_text, other_changes, changes_text}
 use Rattle.gl_report.specs.Told.{separator, changes_left}
 
 -- one change more is written, of those that are left

@@ -8,8 +8,8 @@ use Rattle.gl_lines.specs.declared.plan.ListenerDecl.{ListenerDecl}
 use Rattle.gl_lines.specs.declared.reply.Reply.{Reply}
 use Rattle.spec_plans.specs.Plan.{Plan}
 use Rattle.spec_states.specs.Shown.{Table, shows_in}
-use Rattle.spec_whole_runs.specs.Telling.{Telling}
-use Rattle.spec_whole_texts.specs.Report.{told_lines, told_first, told_later, entry_lines, list_lines}
+use Rattle.spec_runs.specs.Telling.{Telling}
+use Rattle.spec_reports.specs.Report.{told_lines, told_first, told_later, entry_lines, list_lines}
 use Rattle.gl_world.specs.declared.telling.Telling.{Telling as Told}
 use Rattle.gl_world.specs.Told.{telling_data, tellings_of}
 use Rattle.gl_report.specs.Lines.{spelled_entry, list_line, told_line}

@@ -5,11 +5,11 @@ use Rattle.gl_outside.specs.declared.gate.Actor.{Actor}
 use Rattle.gl_lines.specs.declared.plan.ListDecl.{ListDecl}
 use Rattle.gl_lines.specs.declared.plan.ListenerDecl.{ListenerDecl}
 use Rattle.gl_lines.specs.declared.reply.Reply.{Reply}
-use Rattle.spec_texts.specs.Order.{spelled_actor}
+use Rattle.spec_reports.specs.Order.{spelled_actor}
 use Rattle.spec_texts.specs.Value.{spelled_list}
-use Rattle.spec_texts.specs.Report.{line_feed, event_text}
-use Rattle.spec_whole_runs.specs.Telling.{Telling}
-use Rattle.spec_whole_texts.specs.Report.{reply_lines, listener_name}
+use Rattle.spec_reports.specs.Event.{event_text}
+use Rattle.spec_runs.specs.Telling.{Telling}
+use Rattle.spec_reports.specs.Report.{line_feed, reply_lines, listener_name}
 
 -- the entry at a place, with its replies, among these lists
 abbrev pub spelled_entry : List ListDecl → ℕ → Actor → List Reply → List ℕ

@@ -1,7 +1,7 @@
 -- The text of an event, as it is written piece by piece.
 use Rattle.std.specs.Prelude.{ℕ, Bool, true, false, List, [], codes}
 use Rattle.spec_lists.specs.Changes.{Change}
-use Rattle.spec_texts.specs.Report.{other_changes, changes_text}
+use Rattle.spec_reports.specs.Event.{other_changes, changes_text}
 
 -- what stands before a change: nothing before the first
 abbrev pub separator : Bool → List ℕ

@@ -1,8 +1,8 @@
 //! What each entry was answered and told.
 
 ghost use Rattle.std.specs.Prelude.{◌≡◌, ◌≤◌, ◌++◌, drop, length, IfOk, OnOk};
-ghost use Rattle.spec_whole_runs.specs.Run.{run};
-ghost use Rattle.spec_whole_texts.specs.Report.{listener_name, told_lines, told_first, told_later, entry_lines};
+ghost use Rattle.spec_runs.specs.Run.{run};
+ghost use Rattle.spec_reports.specs.Report.{listener_name, told_lines, told_first, told_later, entry_lines};
 ghost use Rattle.gl_world.specs.Told.{telling_data, tellings_of};
 ghost use Rattle.gl_report.specs.Lines.{spelled_entry, told_line};
 

@@ -2,7 +2,7 @@
 
 ghost use Rattle.std.specs.Prelude.{◌≡◌, ◌++◌, OnOk, OnErr, codes, decimal};
 ghost use Rattle.spec_texts.specs.Value.{spelled_value};
-ghost use Rattle.spec_texts.specs.Report.{change_text, event_text};
+ghost use Rattle.spec_reports.specs.Event.{change_text, event_text};
 ghost use Rattle.gl_event.specs.Changes.{change_ref};
 ghost use Rattle.gl_report.specs.Told.{separator};
 

@@ -1,7 +1,7 @@
 //! The report of a world: the order of its entries, what each was answered and told, and what its lists show at last;
 //! and the text of an event.
 //! It is written from the world alone, through its public calls, into one run of bytes.
-//! What a report says is defined in `spec_whole_texts`.
+//! What a report says is defined in `spec_reports`.
 #![tactic(auto)]
 
 mod entries;

@@ -2,9 +2,9 @@
 
 ghost use Rattle.std.specs.Prelude.{◌≡◌, ◌<◌, ◌++◌, length, OnOk};
 ghost use Rattle.spec_states.specs.Shown.{table_of};
-ghost use Rattle.spec_whole_runs.specs.Run.{run, shown_after};
+ghost use Rattle.spec_runs.specs.Run.{run, shown_after};
 ghost use Rattle.spec_texts.specs.Value.{spelled_list};
-ghost use Rattle.spec_whole_texts.specs.Report.{list_lines};
+ghost use Rattle.spec_reports.specs.Report.{list_lines};
 ghost use Rattle.gl_report.specs.Lines.{list_line};
 
 use gl_syntax::{add_comma, add_value};

@@ -1,7 +1,7 @@
 //! The order of a world's entries.
 
 ghost use Rattle.std.specs.Prelude.{◌≡◌, ◌++◌, OnOk};
-ghost use Rattle.spec_texts.specs.Order.{spelled_actor, spelled_rest, spelled_order};
+ghost use Rattle.spec_reports.specs.Order.{spelled_actor, spelled_rest, spelled_order};
 
 use gl_outside::Actor;
 use gl_syntax::add_number;

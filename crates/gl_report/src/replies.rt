@@ -2,7 +2,7 @@
 
 ghost use Rattle.std.specs.Prelude.{◌≡◌, ◌++◌, OnOk, codes, decimal};
 ghost use Rattle.spec_texts.specs.Value.{spelled_list};
-ghost use Rattle.spec_whole_texts.specs.Report.{list_name, reply_text, reply_lines};
+ghost use Rattle.spec_reports.specs.Report.{list_name, reply_text, reply_lines};
 
 use gl_lines::{ListDecl, Reply};
 use gl_syntax::{add_number, add_value};

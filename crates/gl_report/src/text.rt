@@ -1,7 +1,7 @@
 //! The whole report.
 
 ghost use Rattle.std.specs.Prelude.{◌≡◌, IfOk};
-ghost use Rattle.spec_whole_texts.specs.Report.{report as report_of};
+ghost use Rattle.spec_reports.specs.Report.{report as report_of};
 
 use crate::entries::write_entries;
 use crate::lists::write_lists;

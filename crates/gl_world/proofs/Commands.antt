@@ -17,9 +17,9 @@ use Rattle.spec_states.specs.Step.{step, unmoved}
 use Rattle.spec_states.specs.Laws.{IsOrdered, Lead}
 use Rattle.spec_states.proofs.Views.{length-table_of}
 use Rattle.spec_states.proofs.Waves.{step_leads}
-use Rattle.spec_whole_runs.specs.Section.{composed_all}
-use Rattle.spec_whole_runs.proofs.Sections.{old_len_leads, new_len_leads, composed_nothing, nothing_composed, composed_in, then_unchanged}
-use Rattle.spec_whole_runs.proofs.Steps.{still_deltas}
+use Rattle.spec_runs.specs.Section.{composed_all}
+use Rattle.spec_runs.proofs.Sections.{old_len_leads, new_len_leads, composed_nothing, nothing_composed, composed_in, then_unchanged}
+use Rattle.spec_runs.proofs.Steps.{still_deltas}
 use Rattle.gl_graph.specs.Waves.{IsTold, AreTold}
 use Rattle.gl_world.specs.Joined.{IsJoined, AreJoined, Meet, AreMeeting}
 use Rattle.gl_world.specs.Section.{IsDeltaSofar, AreDeltas, Reach, GoOn}

@@ -13,14 +13,14 @@ use Rattle.spec_plans.specs.Cycles.{IsAcyclic}
 use Rattle.spec_states.specs.State.{State}
 use Rattle.spec_states.specs.Shown.{table_of}
 use Rattle.spec_states.proofs.Views.{length-table_of}
-use Rattle.spec_whole_runs.specs.Kinds.{IsFor}
-use Rattle.spec_whole_runs.specs.Section.{state_after, replies_to, section_deltas}
-use Rattle.spec_whole_runs.specs.Telling.{Telling, tellings}
-use Rattle.spec_whole_runs.specs.Run.{run, taken_by}
-use Rattle.spec_whole_runs.proofs.Runs.{state_more, replies_more, told_more, taken_more}
-use Rattle.spec_whole_runs.proofs.Keeping.{length-state}
-use Rattle.spec_whole_runs.proofs.Ordered.{heard_within, well_formed_listeners, listener_turns_below}
-use Rattle.spec_whole_runs.proofs.Suiting.{commands_suit}
+use Rattle.spec_runs.specs.Kinds.{IsFor}
+use Rattle.spec_runs.specs.Section.{state_after, replies_to, section_deltas}
+use Rattle.spec_runs.specs.Telling.{Telling, tellings}
+use Rattle.spec_runs.specs.Run.{run, taken_by}
+use Rattle.spec_runs.proofs.Runs.{state_more, replies_more, told_more, taken_more}
+use Rattle.spec_runs.proofs.Keeping.{length-state}
+use Rattle.spec_runs.proofs.Ordered.{heard_within, well_formed_listeners, listener_turns_below}
+use Rattle.spec_runs.proofs.Suiting.{commands_suit}
 use Rattle.gl_graph.specs.Graph.{Kept, state_of}
 use Rattle.gl_graph.specs.Waves.{Contents, contents}
 use Rattle.gl_graph.proofs.Going.{contents_same_state}

@@ -13,12 +13,12 @@ use Rattle.spec_states.specs.Step.{step}
 use Rattle.spec_states.specs.Laws.{IsOrdered, Lead}
 use Rattle.spec_states.proofs.Views.{length-table_of}
 use Rattle.spec_states.proofs.Waves.{unchanged_at}
-use Rattle.spec_whole_runs.specs.Kinds.{IsFor}
-use Rattle.spec_whole_runs.specs.Section.{state_after, replies_to, section_deltas, composed_all}
-use Rattle.spec_whole_runs.proofs.Sections.{section_leads}
-use Rattle.spec_whole_runs.proofs.Steps.{state_push, replies_push, deltas_push}
-use Rattle.spec_whole_runs.proofs.Keeping.{after_keeps}
-use Rattle.spec_whole_runs.proofs.Suiting.{for_kept}
+use Rattle.spec_runs.specs.Kinds.{IsFor}
+use Rattle.spec_runs.specs.Section.{state_after, replies_to, section_deltas, composed_all}
+use Rattle.spec_runs.proofs.Sections.{section_leads}
+use Rattle.spec_runs.proofs.Steps.{state_push, replies_push, deltas_push}
+use Rattle.spec_runs.proofs.Keeping.{after_keeps}
+use Rattle.spec_runs.proofs.Suiting.{for_kept}
 use Rattle.gl_graph.specs.declared.retreat.GraphUndo.{GraphUndo}
 use Rattle.gl_graph.specs.Graph.{Kept, state_of}
 use Rattle.gl_world.specs.Back.{Leads, GoesOn}

@@ -1,10 +1,10 @@
 -- A command that is for the lists of a state, and isn't `show`, suits what its list keeps.
 use Rattle.gl_lines.specs.declared.plan.Command.{Command}
 use Rattle.gl_lines.specs.declared.plan.Command.TheVariants as c
-use Rattle.spec_whole_plans.specs.WellFormed.{needed_class}
+use Rattle.spec_plans.specs.Plan.{origin}
+use Rattle.spec_canonical.specs.WellFormed.{needed_class}
 use Rattle.spec_states.specs.State.{Own, State, source, filtering, ranging, mapping, unbuilt, own_at}
-use Rattle.spec_states.specs.Wave.{origin}
-use Rattle.spec_whole_runs.specs.Kinds.{HasClass, IsFor, IsChange}
+use Rattle.spec_runs.specs.Kinds.{HasClass, IsFor, IsChange}
 use Rattle.gl_graph.specs.Commands.{Suits}
 
 suits_class : (command : Command) (own : Own) → IsChange command → HasClass (needed_class command) own

@@ -11,7 +11,7 @@ use Rattle.gl_lines.specs.declared.plan.ListenerDecl.{ListenerDecl}
 use Rattle.gl_delta.specs.Told.{Told}
 use Rattle.spec_states.specs.Shown.{Table, shows_in}
 use Rattle.spec_states.specs.Wave.{Deltas, delta_in}
-use Rattle.spec_whole_runs.specs.Telling.{Telling as TellingData, telling_of, told_one}
+use Rattle.spec_runs.specs.Telling.{Telling as TellingData, telling_of, told_one}
 use Rattle.gl_world.specs.declared.telling.Telling.{Telling}
 use Rattle.gl_world.specs.Told.{telling_data, tellings_of, pieces_of, all_pieces, told_all}
 use Rattle.gl_world.specs.Section.{IsDeltaSofar, AreDeltas}

@@ -8,7 +8,7 @@ use Rattle.spec_states.specs.Shown.{Table, shows_in, table_of, shown}
 use Rattle.spec_states.specs.Wave.{Deltas, delta_in}
 use Rattle.spec_states.specs.Step.{step}
 use Rattle.spec_states.specs.Laws.{Lead}
-use Rattle.spec_whole_runs.specs.Section.{composed_all}
+use Rattle.spec_runs.specs.Section.{composed_all}
 
 -- the delta of a list of so many elements, or nothing where that is the identity
 abbrev pub IsDeltaSofar : ℕ → List Piece → Option Told → Type 0

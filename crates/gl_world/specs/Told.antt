@@ -4,7 +4,7 @@ use Rattle.spec_lists.specs.Piece.{Piece}
 use Rattle.gl_lines.specs.declared.plan.ListenerDecl.{ListenerDecl}
 use Rattle.gl_delta.specs.Told.{Told}
 use Rattle.spec_states.specs.Wave.{Deltas}
-use Rattle.spec_whole_runs.specs.Telling.{Telling as TellingData, told_one}
+use Rattle.spec_runs.specs.Telling.{Telling as TellingData, told_one}
 use Rattle.gl_world.specs.declared.telling.Telling.{Telling}
 
 -- who was told, where, and the delta

@@ -3,10 +3,10 @@ use Rattle.std.specs.Prelude.{◌≡◌, ◌<◌, ◌≤◌, ℕ, true, List, le
 use Rattle.gl_outside.specs.declared.gate.Actor.{Actor}
 use Rattle.gl_lines.specs.declared.reply.Reply.{Reply}
 use Rattle.spec_plans.specs.Plan.{Plan}
-use Rattle.spec_whole_plans.specs.WellFormed.{IsWellFormed}
-use Rattle.spec_whole_runs.specs.Built.{is_built}
-use Rattle.spec_whole_runs.specs.Telling.{Telling, listener_turns}
-use Rattle.spec_whole_runs.specs.Run.{run, taken_by}
+use Rattle.spec_canonical.specs.WellFormed.{IsWellFormed}
+use Rattle.spec_runs.specs.Built.{is_built}
+use Rattle.spec_runs.specs.Telling.{Telling, listener_turns}
+use Rattle.spec_runs.specs.Run.{run, taken_by}
 use Rattle.gl_graph.specs.Graph.{Kept, state_of}
 
 -- what a world needs of its plan: all of it is built, and it is one that lines make, with a limit that deltas have

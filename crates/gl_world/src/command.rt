@@ -2,7 +2,7 @@
 
 ghost use Rattle.std.specs.Prelude.{◌≡◌, ◌<◌, length, IfOk, OnOk};
 ghost use Rattle.spec_states.specs.Step.{step};
-ghost use Rattle.spec_whole_runs.specs.Kinds.{IsFor, IsChange};
+ghost use Rattle.spec_runs.specs.Kinds.{IsFor, IsChange};
 ghost use Rattle.gl_graph.specs.Graph.{state_of};
 ghost use Rattle.gl_world.specs.Back.{GoesOn};
 ghost use Rattle.gl_world.specs.Section.{Reach, GoOn};

@@ -4,8 +4,8 @@ ghost use Rattle.std.specs.Prelude.{◌≡◌, ◌++◌, ◌∷◌, [], length, 
 ghost use Rattle.std.specs.List.{AllByRecursion};
 ghost use Rattle.spec_states.specs.Shown.{table_of};
 ghost use Rattle.spec_states.specs.Step.{step};
-ghost use Rattle.spec_whole_runs.specs.Kinds.{IsFor};
-ghost use Rattle.spec_whole_runs.specs.Section.{state_after, replies_to, section_deltas};
+ghost use Rattle.spec_runs.specs.Kinds.{IsFor};
+ghost use Rattle.spec_runs.specs.Section.{state_after, replies_to, section_deltas};
 ghost use Rattle.gl_graph.specs.Graph.{state_of};
 ghost use Rattle.gl_graph.specs.Waves.{contents};
 ghost use Rattle.gl_world.specs.Back.{Leads, GoesOn};

@@ -2,7 +2,7 @@
 
 ghost use Rattle.std.specs.Prelude.{◌≡◌, ◌<◌, ◌++◌, length, IfOk, OnOk};
 ghost use Rattle.std.specs.List.{AllByRecursion};
-ghost use Rattle.spec_whole_runs.specs.Telling.{told_one, telling_of};
+ghost use Rattle.spec_runs.specs.Telling.{told_one, telling_of};
 ghost use Rattle.gl_world.specs.Told.{tellings_of, told_all, all_pieces};
 
 use gl_delta::{Delta, Deltas};

@@ -24,15 +24,15 @@ use Rattle.spec_plans.specs.Numbered.{numbered}
 use Rattle.spec_plans.specs.Place.{first_misplaced}
 use Rattle.spec_plans.specs.NameFaults.{first_misnamed, first_fault_at}
 use Rattle.spec_plans.specs.Plan.{Plan}
-use Rattle.spec_whole_plans.specs.Canonical.{unplaced_name, list_line, row_lines, command_line, lines_of_plan, spelled_plan, names_of_lists}
-use Rattle.spec_whole_plans.specs.Unplaced.{taken_out, unplaced}
-use Rattle.spec_whole_plans.specs.WellFormed.{IsWellFormed, all_commands}
-use Rattle.spec_whole_plans.proofs.Again.{Again, read_again}
-use Rattle.spec_whole_plans.proofs.Said.{first_none, unmapped}
-use Rattle.spec_whole_plans.proofs.Sound.{sound_lines_well_formed}
+use Rattle.spec_canonical.specs.Canonical.{ended, unplaced_name, list_line, row_lines, command_line, lines_of_plan, spelled_plan, names_of_lists}
+use Rattle.spec_canonical.specs.Unplaced.{taken_out, unplaced}
+use Rattle.spec_canonical.specs.WellFormed.{IsWellFormed, all_commands}
+use Rattle.spec_canonical.proofs.Again.{Again, read_again}
+use Rattle.spec_canonical.proofs.Said.{first_none, unmapped}
+use Rattle.spec_canonical.proofs.Sound.{sound_lines_well_formed}
 use Rattle.spec_plan_texts.specs.Text.{SpellsPlan}
 use Rattle.spec_plan_laws.specs.Short.{HasShortLines}
-use Rattle.spec_plan_laws.proofs.Cut.{line_first, ended, IsFineLine, text_lines, text_utf8}
+use Rattle.spec_plan_laws.proofs.Cut.{line_first, IsFineLine, text_lines, text_utf8}
 use Rattle.spec_plan_laws.proofs.Parts.{OfList, all_lines}
 use Rattle.spec_plan_laws.proofs.Coming.{OpensNone, comes}
 

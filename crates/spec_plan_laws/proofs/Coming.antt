@@ -13,7 +13,7 @@ use Rattle.spec_lines.proofs.Within.{within_spelled}
 use Rattle.spec_plans.specs.Along.{first_behind}
 use Rattle.spec_plans.specs.Numbered as whole
 use Rattle.spec_plans.specs.Place.{place_fault, misplacing}
-use Rattle.spec_whole_plans.proofs.Said.{first_none, second_none, unmapped}
+use Rattle.spec_canonical.proofs.Said.{first_none, second_none, unmapped}
 use Rattle.spec_plan_texts.specs.Reading.{all_read, outside, Comes, at_end, plain, SpellsLine, opened_by, numbered}
 use Rattle.spec_plan_laws.specs.Short.{IsShortLine}
 

@@ -8,6 +8,7 @@ use Rattle.spec_syntax.proofs.Utf8.{ascii_utf8}
 use Rattle.spec_texts.specs.Cuts.{with_front, lines_in}
 use Rattle.gl_lines.specs.declared.line.Line.{Line}
 use Rattle.spec_lines.specs.Spelled.{spelled_line}
+use Rattle.spec_canonical.specs.Canonical.{ended}
 use Rattle.spec_plan_laws.proofs.Fine.{HasNoFeed, IsFine}
 
 -- a line with its line feed comes first
@@ -16,9 +17,6 @@ line_first [] rest h = refl
 line_first (b ∷ bs) rest h =
     ap (λ t. cond t ([] ∷ lines_in (bs ++ 10 ∷ rest)) (with_front b (lines_in (bs ++ 10 ∷ rest)))) h.0
     ∙ ap (with_front b) (line_first bs rest h.1)
-
-abbrev pub ended : Line → List ℕ
-ended l = spelled_line l ++ codes "\n"
 
 abbrev pub IsFineLine : Line → Type 0
 IsFineLine l = IsFine (spelled_line l)

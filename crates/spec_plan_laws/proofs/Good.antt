@@ -21,7 +21,7 @@ use Rattle.spec_plans.specs.declared.part.Part.TheVariants as parts
 use Rattle.spec_plans.specs.Names.{list_names, listener_names, number_of}
 use Rattle.spec_plans.specs.Making.{is_number, row_for, rows_for, part_of, parts_of, with_last, with_part, empty_plan, plan_of}
 use Rattle.spec_plans.specs.Plan.{Plan}
-use Rattle.spec_whole_plans.proofs.Said.{all_given, all_map, all_append, all_weaker}
+use Rattle.spec_canonical.proofs.Said.{all_given, all_map, all_append, all_weaker}
 
 abbrev pub IsName : List ℕ → Type 0
 IsName n = IsTrue (is_name n)

@@ -7,10 +7,10 @@ use Rattle.gl_lines.specs.declared.line.Line.TheVariants as line
 use Rattle.gl_lines.specs.declared.plan.ListDecl.{ListDecl}
 use Rattle.gl_lines.specs.declared.plan.Command.{Command}
 use Rattle.spec_plans.specs.Plan.{Plan}
-use Rattle.spec_whole_plans.specs.Canonical.{unplaced_name, names_of_lists, names_of_listeners, list_line, row_lines, lines_of_list, listener_line, command_line, lines_of_section, lines_of_writer, lines_of_plan}
-use Rattle.spec_whole_plans.specs.WellFormed.{all_commands}
-use Rattle.spec_whole_plans.proofs.Said.{all_map, all_append}
-use Rattle.spec_whole_plans.proofs.Makes.{all_left, all_right}
+use Rattle.spec_canonical.specs.Canonical.{unplaced_name, names_of_lists, names_of_listeners, list_line, row_lines, lines_of_list, listener_line, command_line, lines_of_section, lines_of_writer, lines_of_plan}
+use Rattle.spec_canonical.specs.WellFormed.{all_commands}
+use Rattle.spec_canonical.proofs.Said.{all_map, all_append}
+use Rattle.spec_canonical.proofs.Makes.{all_left, all_right}
 
 pub all_flat : {X Y : Type 0} (P : Y → Type 0) (f : X → List Y) (xs : List X)
     → AllByRecursion (λ x. AllByRecursion P (f x)) xs → AllByRecursion P (flat_map f xs)

@@ -21,7 +21,7 @@ use Rattle.gl_lines.specs.declared.line.Line.TheVariants as line
 use Rattle.gl_lines.specs.declared.line.NumberedLine.{NumberedLine}
 use Rattle.spec_lines.specs.Within.{IsNamed, IsLiteral, IsWithin}
 use Rattle.spec_lines.proofs.Placed.{line_placed}
-use Rattle.spec_whole_plans.proofs.Said.{all_map, all_append, all_weaker}
+use Rattle.spec_canonical.proofs.Said.{all_map, all_append, all_weaker}
 use Rattle.spec_plan_texts.specs.Reading.{Outcome, all_read, stopped, Mode, outside, inside, Comes, at_end, long, skipped, formless, misplaced, plain, opening, in_block, closing, endless, SpellsLine, opened_by, numbered, rows_of}
 use Rattle.spec_plan_texts.specs.Text.{ReadsTo}
 use Rattle.spec_plan_texts.proofs.Cutting.{utf8_cut}

@@ -3,10 +3,10 @@ use Rattle.std.proofs.Common.{ℕ, List, sym, subst}
 use Rattle.std.specs.List.{AllByRecursion}
 use Rattle.spec_lines.specs.Within.{IsWithin}
 use Rattle.spec_plans.specs.Plan.{Plan}
-use Rattle.spec_whole_plans.specs.Canonical.{lines_of_plan, spelled_plan}
-use Rattle.spec_whole_plans.specs.WellFormed.{IsWellFormed}
-use Rattle.spec_whole_plans.proofs.Said.{all_weaker}
-use Rattle.spec_whole_plans.proofs.Sound.{sound_lines_well_formed}
+use Rattle.spec_canonical.specs.Canonical.{lines_of_plan, spelled_plan}
+use Rattle.spec_canonical.specs.WellFormed.{IsWellFormed}
+use Rattle.spec_canonical.proofs.Said.{all_weaker}
+use Rattle.spec_canonical.proofs.Sound.{sound_lines_well_formed}
 use Rattle.spec_plan_texts.specs.Text.{SpellsPlan}
 use Rattle.spec_plan_laws.specs.Short.{HasShortLines}
 use Rattle.spec_plan_laws.proofs.Cut.{IsFineLine}

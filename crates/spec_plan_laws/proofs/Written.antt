@@ -13,12 +13,12 @@ use Rattle.gl_lines.specs.declared.plan.Command.{Command}
 use Rattle.gl_lines.specs.declared.plan.Command.TheVariants as commands
 use Rattle.spec_lines.specs.Within.{IsNamed, IsLiteral, IsWithin}
 use Rattle.spec_plans.specs.NameFaults.{input_need}
-use Rattle.spec_plans.specs.Plan.{Plan, inputs_of}
-use Rattle.spec_whole_plans.specs.Canonical.{unplaced_name, named, names_of_lists, names_of_listeners, list_line, row_lines, listener_line, command_line, lines_of_plan}
-use Rattle.spec_whole_plans.specs.WellFormed.{IsWellFormed, HasList, HasInputs, HasHeard, IsAttachable, class_of_kind, list_of, needed_class, all_commands}
-use Rattle.spec_whole_plans.proofs.Said.{all_map, all_weaker}
-use Rattle.spec_whole_plans.proofs.Makes.{all_left, all_right, all_both}
-use Rattle.spec_whole_plans.proofs.SoundProxies.{have_list, within_plan}
+use Rattle.spec_plans.specs.Plan.{Plan, inputs_of, origin}
+use Rattle.spec_canonical.specs.Canonical.{unplaced_name, named, names_of_lists, names_of_listeners, list_line, row_lines, listener_line, command_line, lines_of_plan}
+use Rattle.spec_canonical.specs.WellFormed.{IsWellFormed, HasList, HasInputs, HasHeard, IsAttachable, class_of_kind, needed_class, all_commands}
+use Rattle.spec_canonical.proofs.Said.{all_map, all_weaker}
+use Rattle.spec_canonical.proofs.Makes.{all_left, all_right, all_both}
+use Rattle.spec_canonical.proofs.SoundProxies.{have_list, within_plan}
 use Rattle.spec_plan_laws.proofs.Good.{IsName, IsGoodKind, IsGoodCommand, IsGoodDecl, IsGood}
 use Rattle.spec_plan_laws.proofs.Parts.{OfList, all_flat, all_lines}
 
@@ -52,7 +52,7 @@ module _ (names : List (List ℕ)) (n : ℕ) (there : (k : ℕ) → k < n → Is
   list_within name (kinds.Freezable input) h g l = (h, there input l.0)
   list_within name (kinds.Proxy input) h g l = (h, there input l.0)
 
-  command_within : (c : Command) → IsGoodCommand c → list_of c < n
+  command_within : (c : Command) → IsGoodCommand c → origin c < n
       → ((list member : ℕ) → c ≡ commands.Attach list member → member < n) → IsWithin (command_line names c)
   command_within (commands.Add list value) g l a = (there list l, g)
   command_within (commands.AddAll list values) g l a = (there list l, g)
@@ -120,7 +120,7 @@ module _ (p : Plan) (h : IsWellFormed p) (g : IsGood p) where
       p.listeners g.listeners (recursion_from_All (HasHeard p) p.listeners h.heard)
 
   abbrev IsPlacedCommand : Command → Type 0
-  IsPlacedCommand c = HasList p (needed_class c) (list_of c) × IsAttachable p c
+  IsPlacedCommand c = HasList p (needed_class c) (origin c) × IsAttachable p c
 
   attached_there : (c : Command) → IsAttachable p c → (list member : ℕ) → c ≡ commands.Attach list member
       → member < length p.lists
@@ -134,13 +134,13 @@ module _ (p : Plan) (h : IsWellFormed p) (g : IsGood p) where
       (λ ss. AllByRecursion IsGoodCommand (flat_map (λ s. s) ss)) (λ ss k. all_flat IsGoodCommand (λ s. s) ss k)
       p.writers g.commands) in
       let placed : AllByRecursion IsPlacedCommand (all_commands p) =
-      all_both (λ c. HasList p (needed_class c) (list_of c)) (IsAttachable p) IsPlacedCommand (λ c a b. (a, b))
+      all_both (λ c. HasList p (needed_class c) (origin c)) (IsAttachable p) IsPlacedCommand (λ c a b. (a, b))
       (all_commands p)
-      (recursion_from_All (λ c. HasList p (needed_class c) (list_of c)) (all_commands p) h.commanded)
+      (recursion_from_All (λ c. HasList p (needed_class c) (origin c)) (all_commands p) h.commanded)
       (recursion_from_All (IsAttachable p) (all_commands p) h.attached) in
       all_both IsGoodCommand IsPlacedCommand (λ c. IsWithin (command_line (names_of_lists p) c))
       (λ c k at. command_within (names_of_lists p) (length p.lists) list_there c k
-      (have_list p (needed_class c) (list_of c) at.0) (attached_there c at.1)) (all_commands p) good placed
+      (have_list p (needed_class c) (origin c) at.0) (attached_there c at.1)) (all_commands p) good placed
 
   pub lines_within : AllByRecursion IsWithin (lines_of_plan p)
   lines_within = all_lines IsWithin p g.limit lists_fine listeners_fine tt tt commands_fine

@@ -4,7 +4,7 @@ use Rattle.std.specs.List.{AllByRecursion}
 use Rattle.gl_lines.specs.declared.line.Line.{Line}
 use Rattle.spec_lines.specs.Spelled.{spelled_line}
 use Rattle.spec_plans.specs.Plan.{Plan}
-use Rattle.spec_whole_plans.specs.Canonical.{lines_of_plan}
+use Rattle.spec_canonical.specs.Canonical.{lines_of_plan}
 use Rattle.spec_plan_texts.specs.Reading.{most_bytes}
 
 -- the one spelling of the line isn't too long

@@ -5,6 +5,7 @@ use Rattle.gl_lines.specs.declared.plan.ListKind.{ListKind}
 use Rattle.gl_lines.specs.declared.plan.ListKind.TheVariants.{Source, Filter, Sorted, Unique, Grouping, Range, Function, Collection, Composite, Transaction, Freezable, Proxy}
 use Rattle.gl_lines.specs.declared.plan.ListenerDecl.{ListenerDecl}
 use Rattle.gl_lines.specs.declared.plan.Command.{Command}
+use Rattle.gl_lines.specs.declared.plan.Command.TheVariants as commands
 
 -- A plan is data: the most elements that a list may have; the lists and the listeners, numbered from 0 as they stand; and for
 -- each writer its sections, each a list of commands.
@@ -21,6 +22,27 @@ sections_of p writer = unwrap_or (slice_get p.writers writer) []
 -- the commands of a writer's section; none where there is no such section
 abbrev pub commands_of : Plan → ℕ → ℕ → List Command
 commands_of p writer section = unwrap_or (slice_get (sections_of p writer) section) []
+
+-- the number of the list that a command is about
+abbrev pub origin : Command → ℕ
+origin (commands.Add list value) = list
+origin (commands.AddAll list values) = list
+origin (commands.Insert list index value) = list
+origin (commands.Set list index value) = list
+origin (commands.Remove list index) = list
+origin (commands.Clear list) = list
+origin (commands.Match list matcher) = list
+origin (commands.Order list order) = list
+origin (commands.Bounds list bounds) = list
+origin (commands.Apply list func) = list
+origin (commands.Attach list member) = list
+origin (commands.Detach list index) = list
+origin (commands.Begin list) = list
+origin (commands.Commit list) = list
+origin (commands.Rollback list) = list
+origin (commands.Freeze list) = list
+origin (commands.Thaw list) = list
+origin (commands.Show list) = list
 
 -- the numbers of the lists that a list depends on
 abbrev pub inputs_of : ListKind → List ℕ

@@ -1,10 +1,9 @@
 pub mod Runs
-pub mod Plans
+pub mod Sections
 pub mod Steps
-pub mod Lengths
-pub mod Settling
-pub mod Views
-pub mod Edits
-pub mod Waves
-pub mod Sizes
+pub mod Ordered
+pub mod Keeping
+pub mod Suiting
+pub mod Within
+pub mod Told
 pub mod Hearing

@@ -4,8 +4,8 @@ use Rattle.std.proofs.lemmas.List.{length_push}
 use Rattle.std.proofs.lemmas.List.Sums.{fold_push}
 use Rattle.gl_outside.specs.declared.gate.Actor.{Actor}
 use Rattle.gl_outside.specs.declared.gate.Actor.TheVariants.{Writer}
-use Rattle.spec_runs.specs.Plan.{Plan, commands_of}
-use Rattle.spec_runs.specs.Step.{state_after, replies_to}
+use Rattle.spec_plans.specs.Plan.{Plan, commands_of}
+use Rattle.spec_runs.specs.Section.{state_after, replies_to}
 use Rattle.spec_runs.specs.Section.{section_deltas}
 use Rattle.spec_runs.specs.Telling.{tellings}
 use Rattle.spec_runs.specs.Run.{Run, run, start, entry, next_commands, taken_by, is_writer}
@@ -23,28 +23,41 @@ pub order_of_run : (p : Plan) (order : List Actor) → (run p order).order ≡ o
 order_of_run p order = order_from p (start p) order
 
 -- one actor more counts for itself alone
-pub taken_more : (writer : ℕ) (order : List Actor) (a : Actor) → taken_by writer (order ++ a ∷ []) ≡ taken_by writer order + taken_by writer (a ∷ [])
+pub taken_more : (writer : ℕ) (order : List Actor) (a : Actor)
+    → taken_by writer (order ++ a ∷ []) ≡ taken_by writer order + taken_by writer (a ∷ [])
 taken_more writer [] a = omega arith
-taken_more writer (b ∷ order) a = elim (is_writer writer b) as (λ v. cond v (suc (taken_by writer (order ++ a ∷ []))) (taken_by writer (order ++ a ∷ [])) ≡ cond v (suc (taken_by writer order)) (taken_by writer order) + taken_by writer (a ∷ [])) [
-  | true ↦ omega (arith, taken_more writer order a)
-  | false ↦ taken_more writer order a
-]
+taken_more writer (b ∷ order) a = elim (is_writer writer b) as (λ v.
+    cond v (suc (taken_by writer (order ++ a ∷ []))) (taken_by writer (order ++ a ∷ []))
+    ≡ cond v (suc (taken_by writer order)) (taken_by writer order) + taken_by writer (a ∷ [])) [
+      | true ↦ omega (arith, taken_more writer order a)
+      | false ↦ taken_more writer order a
+    ]
 
 -- each entry has its replies
-replies_from : (p : Plan) (r : Run) (order : List Actor) → length (fold (entry p) r order).replies ≡ length r.replies + length order
+replies_from : (p : Plan) (r : Run) (order : List Actor)
+    → length (fold (entry p) r order).replies ≡ length r.replies + length order
 replies_from p r [] = omega arith
-replies_from p r (a ∷ order) = replies_from p (entry p r a) order ∙ omega (arith, length_push r.replies (replies_to r.state (next_commands p r.order a)))
+replies_from p r (a ∷ order) =
+    replies_from p (entry p r a) order
+    ∙ omega (arith, length_push r.replies (replies_to p.limit r.state (next_commands p r.order a)))
 
 pub length-replies : (p : Plan) (order : List Actor) → length (run p order).replies ≡ length order
 length-replies p order = replies_from p (start p) order ∙ omega arith
 
 -- one section of a writer more: its state, and its replies behind the others
-pub state_more : (p : Plan) (order : List Actor) (w : ℕ) → (run p (order ++ Writer w ∷ [])).state ≡ state_after (run p order).state (commands_of p w (taken_by w order))
+pub state_more : (p : Plan) (order : List Actor) (w : ℕ)
+    → (run p (order ++ Writer w ∷ [])).state
+    ≡ state_after p.limit (run p order).state (commands_of p w (taken_by w order))
 state_more p order w = rw (run_more p order (Writer w), order_of_run p order) refl
 
-pub replies_more : (p : Plan) (order : List Actor) (w : ℕ) → (run p (order ++ Writer w ∷ [])).replies ≡ (run p order).replies ++ replies_to (run p order).state (commands_of p w (taken_by w order)) ∷ []
+pub replies_more : (p : Plan) (order : List Actor) (w : ℕ)
+    → (run p (order ++ Writer w ∷ [])).replies
+    ≡ (run p order).replies ++ replies_to p.limit (run p order).state (commands_of p w (taken_by w order)) ∷ []
 replies_more p order w = rw (run_more p order (Writer w), order_of_run p order) refl
 
 -- and its tellings behind all others
-pub told_more : (p : Plan) (order : List Actor) (w : ℕ) → (run p (order ++ Writer w ∷ [])).told ≡ (run p order).told ++ tellings p (length order) (section_deltas (run p order).state (commands_of p w (taken_by w order)))
+pub told_more : (p : Plan) (order : List Actor) (w : ℕ)
+    → (run p (order ++ Writer w ∷ [])).told
+    ≡ (run p order).told
+    ++ tellings p (length order) (section_deltas p.limit (run p order).state (commands_of p w (taken_by w order)))
 told_more p order w = rw (run_more p order (Writer w), order_of_run p order) refl

@@ -2,7 +2,7 @@
 use Rattle.std.specs.Prelude.{◌≡◌, ◌++◌, ℕ, List, [], ◌∷◌, length, nat_lt, if◌then◌else◌, Option, Some, None}
 use Rattle.gl_outside.specs.declared.gate.Actor.{Actor}
 use Rattle.gl_outside.specs.declared.gate.Actor.TheVariants.{Writer, Proxy}
-use Rattle.spec_runs.specs.Plan.{Plan, sections_of}
+use Rattle.spec_plans.specs.Plan.{Plan, sections_of}
 use Rattle.spec_runs.specs.Run.{taken_by}
 
 -- why an actor can't take the next entry: the plan has no such writer, the writer has no section left, or the plan has

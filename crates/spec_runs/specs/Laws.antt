@@ -1,24 +1,16 @@
 -- Laws over all runs: what sections do to the lists, and what listeners hear of it.
-use Rattle.std.specs.Prelude.{◌≡◌, ◌<◌, ◌==◌, ◌++◌, ℕ, if◌then◌else◌, List, [], ◌∷◌, length, Some, slice_get}
+use Rattle.std.specs.Prelude.{◌≡◌, ◌==◌, ◌++◌, ℕ, if◌then◌else◌, List, [], ◌∷◌, length, Some, slice_get}
 use Rattle.spec_value.specs.Tree.{Tree}
-use Rattle.spec_lists.specs.Piece.{Piece, IsNormal}
+use Rattle.spec_lists.specs.Piece.{Piece}
 use Rattle.spec_lists.specs.Leads.{IsDelta}
 use Rattle.spec_lists.specs.Changes.{changes, replay}
 use Rattle.gl_outside.specs.declared.gate.Actor.{Actor}
-use Rattle.gl_types.specs.declared.list.ListenerDecl.{ListenerDecl}
-use Rattle.spec_runs.specs.Plan.{Plan}
-use Rattle.spec_runs.specs.Shown.{Table, shows_in}
-use Rattle.spec_runs.specs.Wave.{Deltas, delta_in}
+use Rattle.gl_lines.specs.declared.plan.ListenerDecl.{ListenerDecl}
+use Rattle.spec_plans.specs.Plan.{Plan}
+use Rattle.spec_states.specs.Wave.{delta_in}
 use Rattle.spec_runs.specs.Section.{section_deltas}
 use Rattle.spec_runs.specs.Telling.{Telling, is_identity}
 use Rattle.spec_runs.specs.Run.{run, next_commands, shown_after}
-
--- each of the deltas, one a list, leads from what its list shows in the one table to what it shows in the other
-pub record Lead (deltas : Deltas) (before after : Table) : Type 0 where
-  pub long : length deltas ≡ length before
-  pub same : length after ≡ length before
-  pub each : (list : ℕ) → list < length before → IsDelta (delta_in deltas list) (shows_in before list) (shows_in after list)
-  pub normal : (list : ℕ) → list < length before → IsNormal (delta_in deltas list)
 
 -- what was told to a listener, of these tellings: the deltas in the order told
 abbrev pub told_to : ℕ → List Telling → List (List Piece)
@@ -37,24 +29,28 @@ replay_all (d ∷ ds) xs = replay_all ds (replay (changes d) xs)
 
 -- the delta of a list in an actor's next entry behind these
 abbrev pub entry_delta : Plan → List Actor → Actor → ℕ → List Piece
-entry_delta p order a list = delta_in (section_deltas (run p order).state (next_commands p order a)) list
+entry_delta p order a list = delta_in (section_deltas p.limit (run p order).state (next_commands p order a)) list
 
 -- a listener is told the delta of its list, unless that is the identity
 abbrev pub heard : List Piece → List (List Piece)
 heard delta = if is_identity delta then [] else delta ∷ []
 
--- What a listener hears of its list in an entry behind others: the entry's delta leads from what the list showed before to
--- what it shows after; it is told once where it isn't the identity, and else nothing is told, and the list is as it was.
+-- What a listener hears of its list in an entry behind others: the entry's delta leads from what the list showed before
+-- to what it shows after; it is told once where it isn't the identity, and else nothing is told, and the list is as it
+-- was.
 pub record HearsEntry (p : Plan) (order : List Actor) (a : Actor) (listener list : ℕ) : Type 0 where
   pub leads : IsDelta (entry_delta p order a list) (shown_after p order list) (shown_after p (order ++ a ∷ []) list)
-  pub once : told_to listener (told_at (length order) (run p (order ++ a ∷ [])).told) ≡ heard (entry_delta p order a list)
-  pub else_same : told_to listener (told_at (length order) (run p (order ++ a ∷ [])).told) ≡ [] → shown_after p (order ++ a ∷ []) list ≡ shown_after p order list
+  pub once : told_to listener (told_at (length order) (run p (order ++ a ∷ [])).told)
+      ≡ heard (entry_delta p order a list)
+  pub else_same : told_to listener (told_at (length order) (run p (order ++ a ∷ [])).told) ≡ []
+      → shown_after p (order ++ a ∷ []) list ≡ shown_after p order list
 
 -- Each listener hears each entry, and all that it was told in a run, replayed on what its list showed at the opening,
 -- gives what the list shows.
 pub record Hears (p : Plan) (listener list : ℕ) : Type 0 where
   pub entries : (order : List Actor) (a : Actor) → HearsEntry p order a listener list
-  pub replays : (order : List Actor) → replay_all (told_to listener (run p order).told) (shown_after p [] list) ≡ shown_after p order list
+  pub replays : (order : List Actor)
+      → replay_all (told_to listener (run p order).told) (shown_after p [] list) ≡ shown_after p order list
 
 -- each listener of a plan hears of its list
 abbrev pub EachHears : Plan → Type 0

@@ -1,14 +1,8 @@
-pub mod Plan
-pub mod Building
-pub mod View
-pub mod State
-pub mod Order
-pub mod Shown
-pub mod Wave
-pub mod Step
 pub mod Section
 pub mod Telling
 pub mod Run
 pub mod Fits
+pub mod Built
+pub mod Kinds
 pub mod Laws
 pub mod Rows

@@ -1,86 +1,150 @@
 -- Worked rows of the definitions, each by computing.
-use Rattle.std.specs.Prelude.{◌≡◌, pos, [], ◌∷◌, Some, None, refl, codes}
-use Rattle.spec_value.specs.Tree.{num}
-use Rattle.gl_types.specs.declared.list.ListKind.TheVariants.{Source, Filter}
-use Rattle.gl_types.specs.declared.matcher.Matcher.TheVariants.{Equals}
-use Rattle.gl_types.specs.declared.command.Command.TheVariants.{Add, Insert, Set, Remove}
-use Rattle.gl_types.specs.declared.command.Reply.TheVariants.{Done, OutOfRange}
-use Rattle.gl_outside.specs.declared.gate.Actor.TheVariants.{Writer, Proxy}
-use Rattle.spec_runs.specs.Plan.{Plan}
-use Rattle.gl_types.specs.declared.command.Command.{Command}
-use Rattle.spec_value.specs.Tree.{Tree}
-use Rattle.std.specs.Prelude.{ℕ, List}
-use Rattle.spec_runs.specs.Shown.{table_of}
+use Rattle.std.specs.Prelude.{◌≡◌, ℕ, pos, false, true, List, [], ◌∷◌, Some, None, refl, codes}
+use Rattle.spec_value.specs.Tree.{Tree, num, text, items_of}
+use Rattle.spec_lang.specs.Matcher.{Matcher, all, is}
+use Rattle.spec_lang.specs.declared.Test.TheVariants.{Gt}
 use Rattle.spec_lists.specs.Changes.{Change, changes, insertion, delete, update}
-use Rattle.spec_runs.specs.Telling.{Telling}
-use Rattle.spec_runs.specs.Run.{run, left_to}
+use Rattle.gl_outside.specs.declared.gate.Actor.TheVariants.{Writer, Proxy}
+use Rattle.gl_lines.specs.declared.plan.Command.{Command}
+use Rattle.gl_lines.specs.declared.plan.Command.TheVariants.{Add, AddAll, Insert, Set, Remove, Match, Show}
+use Rattle.gl_lines.specs.declared.plan.ListKind.TheVariants as kinds
+use Rattle.gl_lines.specs.declared.plan.ListenerDecl.{ListenerDecl}
+use Rattle.gl_lines.specs.declared.reply.Reply.TheVariants.{Done, Shown, OutOfRange, TooLong}
+use Rattle.spec_plans.specs.Plan.{Plan}
+use Rattle.spec_states.specs.Shown.{table_of}
+use Rattle.spec_runs.specs.Telling.{Telling, listener_turns}
+use Rattle.spec_runs.specs.Run.{run, left_to, replies_at, shown_after}
 use Rattle.spec_runs.specs.Fits.{first_bad_place, no_section, no_proxy, no_writer}
+use Rattle.spec_runs.specs.Built.{is_built}
 
--- a source, a filter of its fives, and one section: add 5, add 7, remove place 0, remove place 9
-abbrev pub fives : Plan
-fives = record {
-  lists = record { name = codes "s"; kind = Source [] } ∷ record { name = codes "f"; kind = Filter 0 (Equals (pos 5)) } ∷ [];
+-- a source with the row 1 whose lists may have two elements, and one section: addall s [2,3], add s 2, show s
+abbrev pub short : Plan
+short = record {
+  limit = 2;
+  lists = record { name = codes "s"; kind = kinds.Source (num (pos 1) ∷ []) } ∷ [];
   listeners = [];
-  writers = ((Add 0 (num (pos 5)) ∷ Add 0 (num (pos 7)) ∷ Remove 0 0 ∷ Remove 0 9 ∷ []) ∷ []) ∷ [];
+  writers = ((AddAll 0 (num (pos 2) ∷ num (pos 3) ∷ []) ∷ Add 0 (num (pos 2)) ∷ Show 0 ∷ []) ∷ []) ∷ [];
 }
 
--- the replies of its one section
-fives_replies : (run fives (Writer 0 ∷ [])).replies ≡ (Done ∷ Done ∷ Done ∷ OutOfRange 9 1 ∷ []) ∷ []
-fives_replies = refl
+-- two elements more are too many, one goes
+short_replies : replies_at short (Writer 0 ∷ []) 0 ≡ TooLong 0 3 ∷ Done ∷ Shown (num (pos 1) ∷ num (pos 2) ∷ []) ∷ []
+short_replies = refl
 
--- the source is left with the seven, which the filter hides
-fives_shown : table_of (run fives (Writer 0 ∷ [])).state ≡ (num (pos 7) ∷ []) ∷ [] ∷ []
-fives_shown = refl
+short_shown : shown_after short (Writer 0 ∷ []) 0 ≡ num (pos 1) ∷ num (pos 2) ∷ []
+short_shown = refl
 
--- before the first section nothing is shown, and the section is left
-fives_opening : table_of (run fives []).state ≡ [] ∷ [] ∷ []
-fives_opening = refl
+-- there is no second entry, and no replies of it
+short_no_more : replies_at short (Writer 0 ∷ []) 1 ≡ []
+short_no_more = refl
 
-fives_left : left_to fives 0 [] ≡ 1
-fives_left = refl
+-- before the first section its row is shown, and the section is left
+short_opening : table_of (run short []).state ≡ (num (pos 1) ∷ []) ∷ []
+short_opening = refl
+
+short_left : left_to short 0 [] ≡ 1
+short_left = refl
+
+short_none_left : left_to short 0 (Writer 0 ∷ []) ≡ 0
+short_none_left = refl
 
 -- the writer has one section, and there is no second writer and no proxy
-fives_again : first_bad_place fives (Writer 0 ∷ Writer 0 ∷ []) ≡ Some (record { place = 1; reason = no_section })
-fives_again = refl
+short_fits : first_bad_place short (Writer 0 ∷ []) ≡ None
+short_fits = refl
 
-fives_proxy : first_bad_place fives (Proxy 0 ∷ []) ≡ Some (record { place = 0; reason = no_proxy })
-fives_proxy = refl
+short_again : first_bad_place short (Writer 0 ∷ Writer 0 ∷ []) ≡ Some (record { place = 1; reason = no_section })
+short_again = refl
 
-fives_writer : first_bad_place fives (Writer 0 ∷ Writer 1 ∷ []) ≡ Some (record { place = 1; reason = no_writer })
-fives_writer = refl
+short_writer : first_bad_place short (Writer 0 ∷ Writer 1 ∷ []) ≡ Some (record { place = 1; reason = no_writer })
+short_writer = refl
 
-fives_fits : first_bad_place fives (Writer 0 ∷ []) ≡ None
-fives_fits = refl
+short_proxy : first_bad_place short (Proxy 0 ∷ []) ≡ Some (record { place = 0; reason = no_proxy })
+short_proxy = refl
 
--- a source with these rows, a listener on it and one on the filter of its fives, and the sections of one writer
-abbrev pub heard : List Tree → List (List Command) → Plan
-heard rows sections = record {
-  lists = record { name = codes "s"; kind = Source rows } ∷ record { name = codes "f"; kind = Filter 0 (Equals (pos 5)) } ∷ [];
-  listeners = record { name = codes "a"; list = 0 } ∷ record { name = codes "b"; list = 1 } ∷ [];
+-- an element of two, a number and a text
+abbrev pub pair : ℕ → List ℕ → Tree
+pair n name = items_of (num (pos n) ∷ text name ∷ [])
+
+-- a listener that is told after these
+abbrev listener : List ℕ → ℕ → List ℕ → ListenerDecl
+listener name list after = record { name = name; list = list; after = after; echo = false }
+
+-- A filter declared before its source, and a listener of each, the filter's first: the filter shows all of [9,"y"] and
+-- [2,"x"] at first. These are the sections of its one writer.
+abbrev pub watched : List (List Command) → Plan
+watched sections = record {
+  limit = 16777216;
+  lists =
+      record { name = codes "f"; kind = kinds.Filter 1 all }
+      ∷ record { name = codes "s"; kind = kinds.Source (pair 9 (codes "y") ∷ pair 2 (codes "x") ∷ []) }
+      ∷ [];
+  listeners = listener (codes "a") 0 [] ∷ listener (codes "b") 1 [] ∷ [];
   writers = sections ∷ [];
 }
+
+watched_is_built : is_built (watched []) ≡ true
+watched_is_built = refl
 
 -- who was told, where, and which changes
 abbrev as_told : List Telling → List (ℕ × ℕ × List Change)
 as_told [] = []
 as_told (t ∷ ts) = (t.listener, t.place, changes t.delta) ∷ as_told ts
 
--- an insertion that is taken back is told to nobody
-cancelled : (run (heard [] ((Insert 0 0 (num (pos 5)) ∷ Remove 0 0 ∷ []) ∷ [])) (Writer 0 ∷ [])).told ≡ []
+-- those whose number is above so many
+abbrev pub number_above : ℕ → Matcher
+number_above n = is (0 ∷ []) Gt (num (pos n))
+
+-- match f by numbers above 4: one element is hidden, and the filter's listener alone is told
+hidden :
+    as_told (run (watched ((Match 0 (number_above 4) ∷ []) ∷ [])) (Writer 0 ∷ [])).told
+    ≡ (0, 0, delete 1 (pair 2 (codes "x")) ∷ []) ∷ []
+hidden = refl
+
+-- a matcher that accepts as much as before is told to nobody
+as_before : as_told (run (watched ((Match 0 (number_above 1) ∷ []) ∷ [])) (Writer 0 ∷ [])).told ≡ []
+as_before = refl
+
+-- a section hides an element, and the next one sets it: the source is updated, and the filter shows it anew
+shown_anew :
+    as_told
+    (run (watched ((Match 0 (number_above 4) ∷ []) ∷ (Set 1 1 (pair 7 (codes "z")) ∷ []) ∷ []))
+    (Writer 0 ∷ Writer 0 ∷ [])).told
+    ≡ (0, 0, delete 1 (pair 2 (codes "x")) ∷ [])
+    ∷ (0, 1, insertion 1 (pair 7 (codes "z")) ∷ [])
+    ∷ (1, 1, update 1 (pair 2 (codes "x")) (pair 7 (codes "z")) ∷ [])
+    ∷ []
+shown_anew = refl
+
+-- an element that is put in and taken out in one section is told to nobody
+cancelled : (run (watched ((Insert 1 0 (num (pos 5)) ∷ Remove 1 0 ∷ []) ∷ [])) (Writer 0 ∷ [])).told ≡ []
 cancelled = refl
 
--- a deletion and an insertion at one place are told as such, not as an update; the filter shows the five alone
-renewed :
-    as_told (run (heard (num (pos 7) ∷ []) ((Remove 0 0 ∷ Add 0 (num (pos 5)) ∷ []) ∷ [])) (Writer 0 ∷ [])).told
-    ≡ (0, 0, delete 0 (num (pos 7)) ∷ insertion 0 (num (pos 5)) ∷ []) ∷ (1, 0, insertion 0 (num (pos 5)) ∷ []) ∷ []
-renewed = refl
-
--- two updates of one element are told as one; an updated element that is removed is told as deleted, with its first value
-twice :
-    as_told (run (heard (num (pos 1) ∷ []) ((Set 0 0 (num (pos 2)) ∷ Set 0 0 (num (pos 3)) ∷ []) ∷ (Set 0 0 (num (pos 4)) ∷ Remove 0 0 ∷ []) ∷ [])) (Writer 0 ∷ Writer 0 ∷ [])).told
-    ≡ (0, 0, update 0 (num (pos 1)) (num (pos 3)) ∷ []) ∷ (0, 1, delete 0 (num (pos 3)) ∷ []) ∷ []
-twice = refl
-
 -- an index above the length is refused, one at the end is not
-boundaries : (run (heard (num (pos 1) ∷ []) ((Insert 0 2 (num (pos 9)) ∷ Insert 0 1 (num (pos 9)) ∷ Remove 0 2 ∷ Set 0 2 (num (pos 0)) ∷ []) ∷ [])) (Writer 0 ∷ [])).replies ≡ (OutOfRange 2 1 ∷ Done ∷ OutOfRange 2 2 ∷ OutOfRange 2 2 ∷ []) ∷ []
+boundaries :
+    replies_at (watched ((Insert 1 3 (num (pos 9)) ∷ Insert 1 2 (num (pos 9)) ∷ Remove 1 3 ∷ []) ∷ [])) (Writer 0 ∷ [])
+    0
+    ≡ OutOfRange 3 2 ∷ Done ∷ OutOfRange 3 3 ∷ []
 boundaries = refl
+
+-- a listener is told after those that it names, wherever it stands
+abbrev pub told_after : Plan
+told_after = record {
+  limit = 9;
+  lists = record { name = codes "s"; kind = kinds.Source [] } ∷ [];
+  listeners = listener (codes "a") 0 (2 ∷ []) ∷ listener (codes "b") 0 [] ∷ listener (codes "c") 0 [] ∷ [];
+  writers = ((Add 0 (num (pos 1)) ∷ []) ∷ []) ∷ [];
+}
+
+told_after_turns : listener_turns told_after ≡ 1 ∷ 2 ∷ 0 ∷ []
+told_after_turns = refl
+
+told_after_told :
+    as_told (run told_after (Writer 0 ∷ [])).told
+    ≡ (1, 0, insertion 0 (num (pos 1)) ∷ [])
+    ∷ (2, 0, insertion 0 (num (pos 1)) ∷ [])
+    ∷ (0, 0, insertion 0 (num (pos 1)) ∷ [])
+    ∷ []
+told_after_told = refl
+
+-- a listener that is told after another isn't built yet
+told_after_not_built : is_built told_after ≡ false
+told_after_not_built = refl

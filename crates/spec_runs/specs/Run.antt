@@ -1,16 +1,15 @@
 -- A run: the entries that the actors make, in the order in which they take the lock.
 use Rattle.std.specs.Prelude.{◌==◌, ◌++◌, ◌-◌, ℕ, suc, List, [], ◌∷◌, length, fold, unwrap_or, slice_get, Bool, false, if◌then◌else◌}
+use Rattle.spec_value.specs.Tree.{Tree}
 use Rattle.gl_outside.specs.declared.gate.Actor.{Actor}
 use Rattle.gl_outside.specs.declared.gate.Actor.TheVariants.{Writer, Proxy}
-use Rattle.gl_types.specs.declared.command.Command.{Command}
-use Rattle.gl_types.specs.declared.command.Reply.{Reply}
-use Rattle.spec_runs.specs.Plan.{Plan, commands_of, sections_of}
-use Rattle.spec_runs.specs.State.{State, opening}
-use Rattle.spec_runs.specs.Step.{state_after, replies_to}
-use Rattle.spec_runs.specs.Section.{section_deltas}
+use Rattle.gl_lines.specs.declared.plan.Command.{Command}
+use Rattle.gl_lines.specs.declared.reply.Reply.{Reply}
+use Rattle.spec_plans.specs.Plan.{Plan, commands_of, sections_of}
+use Rattle.spec_states.specs.State.{State, opening}
+use Rattle.spec_states.specs.Shown.{shown}
+use Rattle.spec_runs.specs.Section.{state_after, replies_to, section_deltas}
 use Rattle.spec_runs.specs.Telling.{Telling, tellings}
-use Rattle.spec_runs.specs.Shown.{shown}
-use Rattle.spec_value.specs.Tree.{Tree}
 
 -- whether an actor is this writer
 abbrev pub is_writer : ℕ → Actor → Bool
@@ -26,7 +25,7 @@ taken_by writer (a ∷ order) = if is_writer writer a then suc (taken_by writer 
 abbrev pub left_to : Plan → ℕ → List Actor → ℕ
 left_to p writer order = length (sections_of p writer) - taken_by writer order
 
--- the commands that an actor's next entry takes: a writer's next section; no plan has a proxy yet
+-- the commands that an actor's next entry takes: a writer's next section. No plan that is built has a proxy.
 abbrev pub next_commands : Plan → List Actor → Actor → List Command
 next_commands p order (Writer w) = commands_of p w (taken_by w order)
 next_commands p order (Proxy n) = []
@@ -46,9 +45,9 @@ start p = record { order = []; state = opening p; replies = []; told = [] }
 abbrev pub entered : Plan → Run → Actor → List Command → Run
 entered p r a commands = record {
   order = r.order ++ a ∷ [];
-  state = state_after r.state commands;
-  replies = r.replies ++ replies_to r.state commands ∷ [];
-  told = r.told ++ tellings p (length r.order) (section_deltas r.state commands);
+  state = state_after p.limit r.state commands;
+  replies = r.replies ++ replies_to p.limit r.state commands ∷ [];
+  told = r.told ++ tellings p (length r.order) (section_deltas p.limit r.state commands);
 }
 
 -- one entry more

@@ -1,11 +1,11 @@
 -- What listeners are told: at the end of an entry, the delta of their list.
 use Rattle.std.specs.Prelude.{◌==◌, ℕ, if◌then◌else◌, Bool, List, [], ◌∷◌, length, flat_map, Option, Some, None, slice_get}
-use Rattle.std.specs.List.{range_with_len}
 use Rattle.spec_lists.specs.Piece.{Piece}
 use Rattle.spec_lists.specs.Changes.{changed_len}
-use Rattle.gl_types.specs.declared.list.ListenerDecl.{ListenerDecl}
-use Rattle.spec_runs.specs.Plan.{Plan}
-use Rattle.spec_runs.specs.Wave.{Deltas, delta_in}
+use Rattle.spec_order.specs.Turns.{turns}
+use Rattle.gl_lines.specs.declared.plan.ListenerDecl.{ListenerDecl}
+use Rattle.spec_plans.specs.Plan.{Plan, listener_edges}
+use Rattle.spec_states.specs.Wave.{Deltas, delta_in}
 
 -- a listener, the place of the entry at which it was told, and the delta that it was told
 pub record Telling : Type 0 where
@@ -19,7 +19,8 @@ is_identity delta = changed_len delta == 0
 
 -- a listener is told every delta but the identity
 abbrev pub telling_of : ℕ → ℕ → List Piece → List Telling
-telling_of place listener delta = if is_identity delta then [] else record { listener = listener; place = place; delta = delta } ∷ []
+telling_of place listener delta =
+    if is_identity delta then [] else record { listener = listener; place = place; delta = delta } ∷ []
 
 -- what a listener of the plan is told at a place, where these are the deltas of the lists
 abbrev pub told_one : List ListenerDecl → ℕ → Deltas → ℕ → List Telling
@@ -29,10 +30,10 @@ told_one listeners place deltas listener = by_decl (slice_get listeners listener
     by_decl None = []
     by_decl (Some d) = telling_of place listener (delta_in deltas d.list)
 
--- The listeners in the order in which they are told. None is told after another by its own wish yet, so this is the order
--- of declaration.
+-- the listeners in the order in which they are told: each behind those that it is told after, and the least number
+-- first where several may come next
 abbrev pub listener_turns : Plan → List ℕ
-listener_turns p = range_with_len 0 (length p.listeners)
+listener_turns p = turns (length p.listeners) (listener_edges p)
 
 -- the tellings of the entry at a place, in which these are the deltas of the lists
 abbrev pub tellings : Plan → ℕ → Deltas → List Telling

@@ -1,4 +1,3 @@
-//! What plans mean: views, states, steps of commands, entries of actors and whole runs.
-//! Definitions and laws alone: every list is computed anew from the sources for each state.
-//! The code above keeps and passes on what these compute afresh.
+//! What the actors of a whole plan do, one entry after another: what commands are answered, what listeners are told, what
+//! lists show; definitions and laws, with no code.
 #![tactic(auto)]

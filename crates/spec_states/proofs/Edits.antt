@@ -9,8 +9,10 @@ use Rattle.spec_lists.proofs.Editing.{identity_normal, around_normal, identity_l
 use Rattle.gl_lines.specs.declared.plan.Command.{Command}
 use Rattle.gl_lines.specs.declared.plan.Command.TheVariants as c
 use Rattle.gl_lines.specs.declared.reply.Reply.TheVariants.{OutOfRange}
+use Rattle.spec_plans.specs.Plan.{origin}
 use Rattle.spec_states.specs.State.{State, source, own_at}
-use Rattle.spec_states.specs.Wave.{origin, edit, edited, element_at}
+use Rattle.spec_views.specs.Source.{element_at}
+use Rattle.spec_states.specs.Wave.{edit, edited}
 use Rattle.spec_states.specs.Step.{refusal, out_of_range, past_end}
 
 pub in_range : (index len : ℕ) → out_of_range index len ≡ None → index < len

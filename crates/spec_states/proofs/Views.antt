@@ -16,10 +16,10 @@ use Rattle.gl_lines.specs.declared.plan.ListDecl.{ListDecl}
 use Rattle.gl_lines.specs.declared.plan.ListKind.{ListKind}
 use Rattle.gl_lines.specs.declared.plan.ListKind.TheVariants.{Source, Filter, Sorted, Unique, Grouping, Range, Function, Collection, Composite, Transaction, Freezable, Proxy}
 use Rattle.gl_lines.specs.declared.reply.Reply.{Reply}
-use Rattle.spec_plans.specs.Plan.{Plan, edges_from, inputs_of, list_edges}
+use Rattle.spec_plans.specs.Plan.{Plan, edges_from, inputs_of, list_edges, origin}
 use Rattle.spec_states.specs.State.{Own, State, source, filtering, ranging, mapping, unbuilt, inputs, opening, opening_of, own_at, edges_of, turns}
 use Rattle.spec_states.specs.Shown.{view, nothing_shown, table_of, EachShowsItsView}
-use Rattle.spec_states.specs.Wave.{origin, kept_after, wave}
+use Rattle.spec_states.specs.Wave.{kept_after, wave}
 use Rattle.spec_states.specs.Step.{step, step_by, unmoved}
 use Rattle.spec_states.specs.Laws.{IsOrdered}
 use Rattle.spec_states.proofs.Turns.{ordered, turns_follow}

@@ -23,9 +23,10 @@ use Rattle.spec_views.proofs.Following.{filter_change_leads, range_leads, range_
 use Rattle.gl_lines.specs.declared.plan.Command.{Command}
 use Rattle.gl_lines.specs.declared.plan.Command.TheVariants as c
 use Rattle.gl_lines.specs.declared.reply.Reply.{Reply}
+use Rattle.spec_plans.specs.Plan.{origin}
 use Rattle.spec_states.specs.State.{Own, State, source, filtering, ranging, mapping, unbuilt, inputs, own_at, edges_of, turns}
 use Rattle.spec_states.specs.Shown.{Table, view, shows_in, table_of, shown}
-use Rattle.spec_states.specs.Wave.{delta_in, origin, matcher_after, bounds_after, func_after, kept_after, wave, change, follow, wave_delta, unchanged, wave_deltas}
+use Rattle.spec_states.specs.Wave.{delta_in, matcher_after, bounds_after, func_after, kept_after, wave, change, follow, wave_delta, unchanged, wave_deltas}
 use Rattle.spec_states.specs.Step.{step, step_by, refusal, too_long, unmoved}
 use Rattle.spec_states.specs.Laws.{IsOrdered, Lead}
 use Rattle.spec_states.proofs.Turns.{Follow, ordered, turns_follow}

@@ -1,39 +1,20 @@
 -- A wave: what a command does to the list that it is about, and the delta of each list that comes of it.
-use Rattle.std.specs.Prelude.{◌==◌, ◌++◌, ℕ, pos, List, [], ◌∷◌, length, map, insert, remove, slice_set, slice_get, unwrap_or, fold, if◌then◌else◌}
-use Rattle.spec_value.specs.Tree.{Tree, num}
+use Rattle.std.specs.Prelude.{◌==◌, ◌++◌, ℕ, List, [], ◌∷◌, length, map, insert, remove, slice_set, slice_get, unwrap_or, fold, if◌then◌else◌}
+use Rattle.spec_value.specs.Tree.{Tree}
 use Rattle.spec_lists.specs.Piece.{Piece, inserted, deleted, identity}
 use Rattle.spec_lists.specs.Delta.{one_insert, one_set, one_remove}
 use Rattle.spec_lang.specs.Matcher.{Matcher, accepts}
 use Rattle.spec_lang.specs.Func.{Func, eval}
 use Rattle.spec_lang.specs.declared.Bounds.{Bounds}
+use Rattle.spec_views.specs.Source.{element_at}
 use Rattle.spec_views.specs.Filter.{filter_follow, filter_change}
 use Rattle.spec_views.specs.Range.{range_follow, range_change}
 use Rattle.spec_views.specs.Function.{function_follow, function_change}
 use Rattle.gl_lines.specs.declared.plan.Command.{Command}
 use Rattle.gl_lines.specs.declared.plan.Command.TheVariants as c
+use Rattle.spec_plans.specs.Plan.{origin}
 use Rattle.spec_states.specs.State.{Own, State, source, filtering, ranging, mapping, unbuilt, own_at, turns}
 use Rattle.spec_states.specs.Shown.{Table, shows_in, table_of}
-
--- the number of the list that a command is about
-abbrev pub origin : Command → ℕ
-origin (c.Add list value) = list
-origin (c.AddAll list values) = list
-origin (c.Insert list index value) = list
-origin (c.Set list index value) = list
-origin (c.Remove list index) = list
-origin (c.Clear list) = list
-origin (c.Match list matcher) = list
-origin (c.Order list order) = list
-origin (c.Bounds list bounds) = list
-origin (c.Apply list func) = list
-origin (c.Attach list member) = list
-origin (c.Detach list index) = list
-origin (c.Begin list) = list
-origin (c.Commit list) = list
-origin (c.Rollback list) = list
-origin (c.Freeze list) = list
-origin (c.Thaw list) = list
-origin (c.Show list) = list
 
 -- a source's contents once they are edited
 abbrev pub edited : Command → List Tree → List Tree
@@ -44,10 +25,6 @@ edited (c.Set list index value) xs = slice_set xs index value
 edited (c.Remove list index) xs = remove xs index
 edited (c.Clear list) xs = []
 edited other xs = xs
-
--- the element at a place; past the end the number 0
-abbrev pub element_at : List Tree → ℕ → Tree
-element_at xs place = unwrap_or (slice_get xs place) (num (pos 0))
 
 -- the delta of those contents: old places are paired plainly but for the one that is set, which is updated, and those that
 -- are removed

@@ -1,6 +1,6 @@
 use Rattle.std.proofs.Common.{◌≡◌, ◌++◌, drop}
 use Rattle.std.specs.Prelude.{codes}
-use Rattle.spec_whole_texts.specs.Answer.{spaced}
+use Rattle.spec_reports.specs.Answer.{spaced}
 use Rattle.gl_app.proofs.texts.cycle_text.Given as goal
 
 -- what is written and the names that are left are the whole

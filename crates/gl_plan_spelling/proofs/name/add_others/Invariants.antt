@@ -1,6 +1,6 @@
 use Rattle.std.proofs.Common.{◌≡◌, ◌++◌, drop, map}
 use Rattle.spec_lines.specs.Spelled.{spelled_others}
-use Rattle.spec_whole_plans.specs.Canonical.{named}
+use Rattle.spec_canonical.specs.Canonical.{named}
 use Rattle.gl_plan_spelling.specs.Texts.{listener_names}
 use Rattle.gl_plan_spelling.proofs.name.add_others.Given as goal
 

@@ -1,6 +1,6 @@
 use Rattle.std.proofs.Common.{rules, ◌≡◌, ◌++◌, ◌<◌, [], length}
 use Rattle.spec_plans.specs.Plan.{sections_of, commands_of}
-use Rattle.spec_whole_plans.specs.Canonical.{names_of_lists}
+use Rattle.spec_canonical.specs.Canonical.{names_of_lists}
 use Rattle.gl_plan_spelling.specs.Texts.{section_text}
 use Rattle.gl_plan_spelling.proofs.Texts.{one_more}
 use Rattle.gl_plan_spelling.proofs.plan.add_sections.Goals as goal

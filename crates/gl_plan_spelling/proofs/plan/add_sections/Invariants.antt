@@ -1,7 +1,7 @@
 use Rattle.std.proofs.Common.{◌≡◌, ◌++◌, drop}
 use Rattle.std.specs.List.{flat_map}
 use Rattle.spec_plans.specs.Plan.{sections_of}
-use Rattle.spec_whole_plans.specs.Canonical.{names_of_lists}
+use Rattle.spec_canonical.specs.Canonical.{names_of_lists}
 use Rattle.gl_plan_spelling.specs.Texts.{section_text}
 use Rattle.gl_plan_spelling.proofs.plan.add_sections.Given as goal
 

@@ -4,10 +4,10 @@ use Rattle.std.proofs.lemmas.List.{get_or_default}
 use Rattle.gl_outside.specs.declared.gate.Actor.{Actor}
 use Rattle.gl_outside.specs.declared.gate.Actor.TheVariants.{Writer}
 use Rattle.spec_plans.specs.Plan.{Plan}
-use Rattle.spec_whole_runs.specs.Run.{run}
-use Rattle.spec_whole_runs.specs.Telling.{Telling}
-use Rattle.spec_whole_runs.proofs.Runs.{length-replies}
-use Rattle.spec_whole_texts.specs.Report.{told_lines, told_first, told_later, entry_lines}
+use Rattle.spec_runs.specs.Run.{run}
+use Rattle.spec_runs.specs.Telling.{Telling}
+use Rattle.spec_runs.proofs.Runs.{length-replies}
+use Rattle.spec_reports.specs.Report.{told_lines, told_first, told_later, entry_lines}
 use Rattle.gl_world.specs.declared.telling.Telling.{Telling as Told}
 use Rattle.gl_world.specs.Told.{tellings_of}
 use Rattle.gl_report.specs.Lines.{spelled_entry}

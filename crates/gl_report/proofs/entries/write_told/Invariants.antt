@@ -1,6 +1,6 @@
 use Rattle.std.proofs.Common.{◌≡◌, ◌++◌, drop}
 use Rattle.gl_world.specs.Told.{tellings_of}
-use Rattle.spec_whole_texts.specs.Report.{told_lines, told_first, told_later}
+use Rattle.spec_reports.specs.Report.{told_lines, told_first, told_later}
 use Rattle.gl_report.proofs.entries.write_told.Given as goal
 
 -- what is written and what is left are the whole

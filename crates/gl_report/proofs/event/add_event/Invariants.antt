@@ -1,7 +1,7 @@
 use Rattle.std.proofs.Common.{◌≡◌, ◌++◌, length}
 use Rattle.spec_lists.specs.Changes.{changes}
 use Rattle.gl_event.specs.Changes.{changes_rest, IsFew}
-use Rattle.spec_texts.specs.Report.{event_text}
+use Rattle.spec_reports.specs.Event.{event_text}
 use Rattle.gl_report.specs.Told.{changes_left}
 use Rattle.gl_report.proofs.event.add_event.Given as goal
 

@@ -1,8 +1,8 @@
 use Rattle.std.proofs.Common.{◌≡◌, ◌∙◌, length, ap, sym}
 use Rattle.spec_states.specs.Shown.{Table, table_of}
 use Rattle.spec_states.proofs.Views.{length-table_of}
-use Rattle.spec_whole_runs.specs.Run.{run}
-use Rattle.spec_whole_runs.proofs.Keeping.{length-state}
+use Rattle.spec_runs.specs.Run.{run}
+use Rattle.spec_runs.proofs.Keeping.{length-state}
 use Rattle.gl_report.proofs.Lines.{list_more}
 use Rattle.gl_report.proofs.lists.write_lists.Goals as goal
 

@@ -1,5 +1,5 @@
 use Rattle.std.proofs.Common.{◌≡◌, ◌++◌, drop}
-use Rattle.spec_texts.specs.Order.{spelled_rest}
+use Rattle.spec_reports.specs.Order.{spelled_rest}
 use Rattle.gl_report.proofs.order.write_others.Given as goal
 
 -- what is written and what is left are the whole

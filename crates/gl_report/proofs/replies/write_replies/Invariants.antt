@@ -1,5 +1,5 @@
 use Rattle.std.proofs.Common.{◌≡◌, ◌++◌, drop}
-use Rattle.spec_whole_texts.specs.Report.{reply_lines}
+use Rattle.spec_reports.specs.Report.{reply_lines}
 use Rattle.gl_report.proofs.replies.write_replies.Given as goal
 
 -- what is written and what is left are the whole

@@ -1,7 +1,7 @@
 use Rattle.std.proofs.Common.{◌∙◌, ◌++◌, ◌∷◌, [], sym, subst}
 use Rattle.std.specs.Prelude.{List}
 use Rattle.gl_lines.specs.declared.reply.Reply.TheVariants.{OutOfRange, TooLong}
-use Rattle.spec_whole_runs.proofs.Steps.{still_state}
+use Rattle.spec_runs.proofs.Steps.{still_state}
 use Rattle.gl_graph.specs.declared.retreat.GraphUndo.{GraphUndo}
 use Rattle.gl_graph.specs.Graph.{Kept, state_of}
 use Rattle.gl_graph.specs.Waves.{IsRefused}

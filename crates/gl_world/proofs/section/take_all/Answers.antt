@@ -1,5 +1,5 @@
 use Rattle.std.proofs.Common.{◌∙◌, take, sym}
-use Rattle.spec_whole_runs.specs.Kinds.{IsFor}
+use Rattle.spec_runs.specs.Kinds.{IsFor}
 use Rattle.gl_graph.specs.Graph.{state_of}
 use Rattle.gl_world.proofs.Sections.{taken_none, taken_more, taken_reach, taken_for, taken_long, all_at, next_taken}
 use Rattle.gl_world.proofs.section.take_all.Goals as goal

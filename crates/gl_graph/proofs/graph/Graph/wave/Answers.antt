@@ -1,7 +1,8 @@
 use Rattle.std.proofs.Common.{◌≡◌, ◌<◌, ◌∙◌, None, length, replicate, ap, sym, subst, arith}
+use Rattle.spec_plans.specs.Plan.{origin}
 use Rattle.spec_states.specs.State.{own_at}
 use Rattle.spec_states.specs.Step.{unmoved}
-use Rattle.spec_states.specs.Wave.{origin, wave}
+use Rattle.spec_states.specs.Wave.{wave}
 use Rattle.gl_graph.specs.Commands.{Suits}
 use Rattle.gl_graph.specs.Graph.{Kept, state_of}
 use Rattle.gl_graph.specs.Waves.{AreTold, HaveRoomOf}

@@ -1,6 +1,6 @@
 use Rattle.std.proofs.Common.{◌≢◌, ◌∙◌, ap, sym}
 use Rattle.std.specs.Option.{option_copied}
-use Rattle.spec_states.specs.Wave.{origin}
+use Rattle.spec_plans.specs.Plan.{origin}
 use Rattle.gl_graph.proofs.kernel.Kernel.turn.Goals as goal
 
 pub follow-requires-clause-stood : goal.follow-requires-clause-stood

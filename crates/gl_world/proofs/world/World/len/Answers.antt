@@ -1,6 +1,6 @@
 use Rattle.std.proofs.Common.{◌≡◌, ◌∙◌, ◌≤◌, length, ap, arith}
 use Rattle.spec_states.specs.Shown.{shown}
-use Rattle.spec_whole_runs.proofs.Within.{shown_few}
+use Rattle.spec_runs.proofs.Within.{shown_few}
 use Rattle.gl_graph.specs.Graph.{state_of}
 use Rattle.gl_world.proofs.Entries.{world_lists}
 use Rattle.gl_world.proofs.world.World.len.Goals as goal

@@ -4,10 +4,10 @@ use Rattle.std.proofs.lemmas.List.{get_or_default}
 use Rattle.gl_lines.specs.declared.plan.Command.{Command}
 use Rattle.gl_lines.specs.declared.plan.ListenerDecl.{ListenerDecl}
 use Rattle.spec_plans.specs.Plan.{commands_of}
-use Rattle.spec_whole_runs.specs.Kinds.{IsFor}
-use Rattle.spec_whole_runs.specs.Section.{state_after, replies_to, section_deltas}
-use Rattle.spec_whole_runs.specs.Telling.{tellings}
-use Rattle.spec_whole_runs.specs.Run.{taken_by}
+use Rattle.spec_runs.specs.Kinds.{IsFor}
+use Rattle.spec_runs.specs.Section.{state_after, replies_to, section_deltas}
+use Rattle.spec_runs.specs.Telling.{tellings}
+use Rattle.spec_runs.specs.Run.{taken_by}
 use Rattle.gl_graph.specs.Graph.{state_of}
 use Rattle.gl_graph.specs.Waves.{contents}
 use Rattle.gl_world.specs.Told.{tellings_of, told_all, all_pieces}

@@ -2,7 +2,7 @@ use Rattle.std.proofs.Common.{◌≡◌, ◌∙◌, ap, subst}
 use Rattle.spec_states.specs.State.{State}
 use Rattle.spec_states.specs.Shown.{EachShowsItsView}
 use Rattle.spec_states.proofs.Views.{views_of_state}
-use Rattle.spec_whole_runs.specs.Run.{run}
+use Rattle.spec_runs.specs.Run.{run}
 use Rattle.gl_graph.specs.Graph.{state_of}
 use Rattle.gl_world.proofs.world.World.shown.Goals as goal
 

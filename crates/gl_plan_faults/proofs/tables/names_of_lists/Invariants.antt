@@ -1,0 +1,6 @@
+use Rattle.std.proofs.Common.{◌≡◌, take}
+use Rattle.spec_plans.specs.Names.{list_names}
+use Rattle.gl_plan_faults.proofs.tables.names_of_lists.Given as goal
+
+abbrev pub invariant-loop-line : goal.invariant-loop-line
+invariant-loop-line l = l.table ≡ list_names (take l.line-index l.lines)

@@ -1,0 +1,12 @@
+use Rattle.std.proofs.Common.{◌||◌, ap, ◌∙◌}
+use Rattle.std.specs.Prelude.{option_to_list}
+use Rattle.spec_order.specs.Turns.{has}
+use Rattle.gl_plan_faults.proofs.Building.{numbers_more}
+use Rattle.gl_plan_faults.proofs.tables.with_numbers.Goals as goal
+
+pub loop-named-preserved : goal.loop-named-preserved
+loop-named-preserved c =
+    numbers_more c.args.names.now c.args.listed.now c.loop-named.named-index c.named-item.result
+    c.args.needs.items c.loop-named.needs.items c.in_ok-needs.needs.items c.loop-named-test.true c.named-item.is
+    c.loop-named.invariant
+    (λ b. c.in_ok-needs.ensures b ∙ ap (λ o. has c.loop-named.needs.items b || has (option_to_list o) b) c.number.ensures.value)

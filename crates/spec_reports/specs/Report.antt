@@ -1,0 +1,82 @@
+-- The report of a whole plan and an order.
+use Rattle.std.specs.Prelude.{ℕ, ◌+◌, ◌==◌, if◌then◌else◌, List, [], ◌∷◌, ◌++◌, codes, decimal, Option, Some, None, slice_get}
+use Rattle.gl_outside.specs.declared.gate.Actor.{Actor}
+use Rattle.gl_lines.specs.declared.plan.ListDecl.{ListDecl}
+use Rattle.gl_lines.specs.declared.plan.ListenerDecl.{ListenerDecl}
+use Rattle.gl_lines.specs.declared.reply.Reply.{Reply}
+use Rattle.gl_lines.specs.declared.reply.Reply.TheVariants.{Done, Shown, OutOfRange, TooLong, AlreadyFrozen, NotFrozen, NotOpen}
+use Rattle.spec_texts.specs.Value.{spelled_list}
+use Rattle.spec_reports.specs.Order.{spelled_actor, spelled_order}
+use Rattle.spec_reports.specs.Event.{event_text}
+use Rattle.spec_plans.specs.Plan.{Plan}
+use Rattle.spec_states.specs.Shown.{Table, table_of}
+use Rattle.spec_runs.specs.Telling.{Telling}
+use Rattle.spec_runs.specs.Run.{run}
+
+abbrev pub line_feed : List ℕ
+line_feed = 10 ∷ []
+
+-- the name of a list, by number
+abbrev pub list_name : List ListDecl → ℕ → List ℕ
+list_name lists list = name_of (slice_get lists list)
+  where
+    name_of : Option ListDecl → List ℕ
+    name_of None = []
+    name_of (Some d) = d.name
+
+-- the name of a listener, by number
+abbrev pub listener_name : List ListenerDecl → ℕ → List ℕ
+listener_name listeners listener = name_of (slice_get listeners listener)
+  where
+    name_of : Option ListenerDecl → List ℕ
+    name_of None = []
+    name_of (Some d) = d.name
+
+abbrev pub reply_text : List ListDecl → Reply → List ℕ
+reply_text lists Done = codes "ok"
+reply_text lists (Shown values) = codes "shown " ++ spelled_list values
+reply_text lists (OutOfRange index len) = codes "out-of-range " ++ decimal index ++ codes " " ++ decimal len
+reply_text lists (TooLong list len) = codes "too-long " ++ list_name lists list ++ codes " " ++ decimal len
+reply_text lists AlreadyFrozen = codes "already-frozen"
+reply_text lists NotFrozen = codes "not-frozen"
+reply_text lists NotOpen = codes "not-open"
+
+-- `reply K TEXT` for each reply of an entry, K from a number on
+abbrev pub reply_lines : List ListDecl → ℕ → List Reply → List ℕ
+reply_lines lists k [] = []
+reply_lines lists k (r ∷ rs) = codes "reply " ++ decimal k ++ codes " " ++ reply_text lists r ++ line_feed ++ reply_lines lists (k + 1) rs
+
+-- `told NAME EVENT` for each telling
+abbrev pub told_lines : List ListenerDecl → List Telling → List ℕ
+told_lines listeners [] = []
+told_lines listeners (t ∷ ts) = codes "told " ++ listener_name listeners t.listener ++ codes " " ++ event_text t.delta ++ line_feed ++ told_lines listeners ts
+
+-- of the tellings that are left those of the entry at a place, which come first, and those behind them
+abbrev pub told_first : ℕ → List Telling → List Telling
+told_first i [] = []
+told_first i (t ∷ ts) = if t.place == i then t ∷ told_first i ts else []
+
+abbrev pub told_later : ℕ → List Telling → List Telling
+told_later i [] = []
+told_later i (t ∷ ts) = if t.place == i then told_later i ts else t ∷ ts
+
+-- `at I ACTOR`, the replies and the tellings, for each entry, I from a number on
+abbrev pub entry_lines : Plan → ℕ → List Actor → List (List Reply) → List Telling → List ℕ
+entry_lines p i [] replies told = []
+entry_lines p i (a ∷ order) [] told = []
+entry_lines p i (a ∷ order) (rs ∷ replies) told =
+    codes "at " ++ decimal i ++ codes " " ++ spelled_actor a ++ line_feed ++ reply_lines p.lists 0 rs ++ told_lines p.listeners (told_first i told)
+    ++ entry_lines p (i + 1) order replies (told_later i told)
+
+-- `list NAME VALUES` for each list
+abbrev pub list_lines : List ListDecl → Table → List ℕ
+list_lines [] shown = []
+list_lines (d ∷ lists) [] = []
+list_lines (d ∷ lists) (values ∷ shown) = codes "list " ++ d.name ++ codes " " ++ spelled_list values ++ line_feed ++ list_lines lists shown
+
+-- the order, what each entry answered and told, and what each list shows at the end
+abbrev pub report : Plan → List Actor → List ℕ
+report p order =
+    codes "order " ++ spelled_order order ++ line_feed
+    ++ entry_lines p 0 order (run p order).replies (run p order).told
+    ++ list_lines p.lists (table_of (run p order).state)

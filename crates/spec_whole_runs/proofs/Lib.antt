@@ -1,9 +1,0 @@
-pub mod Runs
-pub mod Sections
-pub mod Steps
-pub mod Ordered
-pub mod Keeping
-pub mod Suiting
-pub mod Within
-pub mod Told
-pub mod Hearing

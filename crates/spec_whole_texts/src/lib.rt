@@ -1,3 +1,0 @@
-//! The report of a whole plan and an order, and what a call of the program answers for its words and bytes: definitions and
-//! laws, with no code.
-#![tactic(auto)]
