@@ -1,26 +1,25 @@
 -- From what a call comes to and what its sink took, all that its status says.
-use Rattle.std.proofs.Common.{◌≡◌, ◌∙◌, ℕ, ◌+◌, ◌-◌, ◌<◌, ◌≤◌, ◌⊎◌, List, [], ◌∷◌, ◌++◌, length, take, true, Option, Some, None, refl, sym, ap, subst, inl, inr, arith, length-append}
-use Rattle.std.specs.Io.KnownBytes.{Appends, Consumes}
+use Rattle.std.proofs.Common.{◌≡◌, ◌∙◌, ℕ, ◌+◌, ◌-◌, ◌<◌, ◌≤◌, ◌⊎◌, List, [], ◌++◌, length, take, true, Option, Some, None, refl, sym, ap, subst, inl, inr, arith, length-append}
+use Rattle.std.specs.Io.KnownBytes.{Appends}
 use Rattle.gl_outside.specs.declared.gate.Actor.{Actor}
 use Rattle.gl_outside.specs.Sink.{AppendsFront}
 use Rattle.spec_plans.specs.Plan.{Plan}
-use Rattle.spec_canonical.specs.Canonical.{spelled_plan}
 use Rattle.spec_plan_texts.specs.Text.{SpellsPlan}
 use Rattle.spec_plan_laws.proofs.Rewritten.{rewritten}
 use Rattle.spec_runs.specs.Built.{is_built}
-use Rattle.spec_runs.specs.Fits.{BadPlace, Fits}
+use Rattle.spec_runs.specs.Fits.{Fits}
 use Rattle.spec_reports.specs.Order.{AsksReplay}
 use Rattle.spec_reports.specs.Words.{Request, check, replay, Asks, HaveNoForm}
 use Rattle.spec_reports.specs.Report.{report}
-use Rattle.spec_reports.specs.Answer.{Outcome, usage, too_large, faulty, circular, written, unbuilt, too_long, misfit, reported, ComesTo, no_form, large, a_fault, a_cycle, a_plan, answer_of, replayed, text_of_outcome, most_bytes}
+use Rattle.spec_reports.specs.Answer.{Outcome, usage, too_large, reported, ComesTo, no_form, large, a_fault, a_cycle, a_plan, answer_of, replayed, text_of_outcome, most_bytes}
 use Rattle.gl_app.specs.declared.status.Status.{Status}
 use Rattle.gl_app.specs.declared.status.Status.TheVariants.{Done, Usage, Plan as PlanStatus, Read, Write, Memory, Order, TooLarge, TooLong}
 use Rattle.gl_app.specs.declared.answer.Answer.{Answer}
 use Rattle.gl_app.specs.declared.answer.Answer.TheVariants as answer
 use Rattle.gl_app.specs.Status.{status_of}
 use Rattle.gl_app.specs.Reading.{Took, IsWhole}
-use Rattle.gl_app.specs.Answer.{status_at, text_at, IsOf, AnswersBytes}
-use Rattle.gl_app.specs.Call.{Tells, AnswersRequest, AnswersWords, Answered, Begun, IsAnswer, Gives, ReportsRun, WritesPlan, MostText, IsAhead, HasRead, IsUsage, IsBehindAll}
+use Rattle.gl_app.specs.Answer.{status_at, text_at, AnswersBytes}
+use Rattle.gl_app.specs.Call.{Tells, AnswersRequest, AnswersWords, Answered, IsAnswer, Gives, ReportsRun, WritesPlan, MostText, IsAhead, HasRead, IsUsage, IsBehindAll}
 use Rattle.gl_app.proofs.PlanLaws.{views_of_spelled, hears_of_spelled}
 use Rattle.gl_app.proofs.RequestLaws.{replayed_cases}
 use Rattle.gl_app.proofs.WordLaws.{one_request_asked}

@@ -1,5 +1,5 @@
 -- From what the parts of the code answer, what a request for the bytes comes to.
-use Rattle.std.proofs.Common.{◌≡◌, ◌∙◌, ℕ, ◌≤◌, List, Option, Some, None, Bool, true, false, cond, length, refl, sym, ap, subst}
+use Rattle.std.proofs.Common.{◌≡◌, ℕ, ◌≤◌, List, Option, Some, None, Bool, true, false, cond, length, refl, sym, subst}
 use Rattle.gl_outside.specs.declared.gate.Actor.{Actor}
 use Rattle.gl_lines.specs.declared.reply.Reply.{Reply}
 use Rattle.gl_lines.specs.declared.reply.Reply.TheVariants as reply
@@ -13,7 +13,7 @@ use Rattle.spec_states.specs.Step.{too_long as first_too_long}
 use Rattle.spec_runs.specs.Built.{is_built}
 use Rattle.spec_runs.specs.Fits.{BadPlace, Fits, first_bad_place}
 use Rattle.spec_reports.specs.Report.{report, list_name}
-use Rattle.spec_reports.specs.Words.{Request, check, replay, Asks}
+use Rattle.spec_reports.specs.Words.{Request, check, replay}
 use Rattle.spec_reports.specs.Answer.{Outcome, faulty, circular, unbuilt, too_long, misfit, reported, taken, opened, replayed, answer_of, a_fault, a_cycle, a_plan, most_bytes}
 use Rattle.gl_app.specs.declared.answer.Answer.{Answer}
 use Rattle.gl_app.specs.Status.{status_of}

@@ -1,5 +1,5 @@
 -- Lemmas on truth values that are kept as colours.
-use Rattle.std.proofs.Common.{◌≡◌, ◌≢◌, ◌⊎◌, ℕ, zero, suc, ◌+◌, ◌-◌, ◌<◌, ◌≤◌, Bool, true, false, not, cond, List, [], ◌∷◌, ◌++◌, length, map, take, drop, replicate, set, insert, remove, Option, Some, None, refl, sym, ap, ◌∙◌, inl, inr, subst, arith, add-one, IsTrue}
+use Rattle.std.proofs.Common.{◌≡◌, ℕ, zero, suc, ◌+◌, ◌-◌, ◌<◌, ◌≤◌, Bool, true, false, cond, List, [], ◌∷◌, ◌++◌, length, take, drop, replicate, set, insert, remove, Option, Some, None, refl, sym, ap, ◌∙◌, inl, inr, subst, arith}
 use Rattle.std.specs.List.{slice_get}
 use Rattle.std.specs.Prelude.{slice_index, IfSome, Result, Ok, Err, OnOk}
 use Rattle.gl_fourcolour.specs.Colours.{Colours, inserted, painted, removed, begins_with, run_count, is_among, count_among, IsKth, AllBelow}

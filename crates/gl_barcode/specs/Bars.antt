@@ -1,5 +1,5 @@
 -- What a contract sees of a `Barcode`: which places are shown.
-use Rattle.std.specs.Prelude.{◌≡◌, ℕ, suc, ◌+◌, ◌-◌, ◌/◌, ◌<◌, ◌≤◌, ◌⊎◌, Bool, true, false, not, cond, List, [], ◌∷◌, length, take, Some, slice_get}
+use Rattle.std.specs.Prelude.{◌≡◌, ℕ, ◌+◌, ◌-◌, ◌/◌, ◌≤◌, ◌⊎◌, Bool, true, false, not, cond, List, [], ◌∷◌, take, Some, slice_get}
 
 -- for each place whether it is shown, and how many stretches there is room for
 pub record Bars : Type 0 where

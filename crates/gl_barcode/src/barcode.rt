@@ -1,6 +1,6 @@
-ghost use Rattle.std.specs.Prelude.{◌≡◌, ℕ, ◌+◌, ◌*◌, ◌^◌, ◌<◌, ◌≤◌, ◌↔◌, [], length, take, insert, remove, slice_get, slice_set, Some, OnOk, OnErr, IsSome, IfSome};
-ghost use Rattle.gl_barcode.specs.Bars.{count_shown, stretch_count, spare, HasRoom, IsKthShown};
-ghost use Rattle.gl_barcode.specs.Held.{colour_of, is_shown};
+ghost use Rattle.std.specs.Prelude.{◌≡◌, ◌+◌, ◌^◌, ◌<◌, ◌≤◌, ◌↔◌, [], length, take, insert, remove, slice_get, slice_set, Some, OnOk, OnErr, IsSome, IfSome};
+ghost use Rattle.gl_barcode.specs.Bars.{count_shown, spare, HasRoom, IsKthShown};
+ghost use Rattle.gl_barcode.specs.Held.{colour_of};
 
 use gl_fourcolour::Runs;
 use std::alloc::{AllocError, Global};

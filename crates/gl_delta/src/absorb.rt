@@ -1,7 +1,7 @@
 //! Composition: the changes of a second delta, recorded on a first one.
 
-ghost use Rattle.std.specs.Prelude.{◌≡◌, ◌+◌, ◌-◌, ◌*◌, ◌<◌, ◌≤◌, ◌∷◌, [], length, suc, slice_get};
-ghost use Rattle.spec_lists.specs.Piece.{kept, old_len, new_len, IsNormal};
+ghost use Rattle.std.specs.Prelude.{◌≡◌, ◌+◌, ◌-◌, ◌*◌, ◌<◌, ◌≤◌, ◌∷◌, [], length};
+ghost use Rattle.spec_lists.specs.Piece.{old_len, new_len, IsNormal};
 ghost use Rattle.spec_lists.specs.Changes.{changed_len, after_changes};
 ghost use Rattle.gl_delta.specs.Absorb.{one_change, kept_front, IsAbsorbing, IsCursor, NoneDeleted};
 ghost use Rattle.gl_delta.specs.Marks.{piece_of};

@@ -1,6 +1,6 @@
 //! A delta: what became of each element of an old list on the way to a new one.
 
-ghost use Rattle.std.specs.Prelude.{◌≡◌, ◌+◌, ◌*◌, ◌<◌, ◌≤◌, ◌++◌, ◌∷◌, ◌↔◌, [], IsTrue, IfOk, IfErr, OnOk, OnErr};
+ghost use Rattle.std.specs.Prelude.{◌≡◌, ◌+◌, ◌*◌, ◌<◌, ◌≤◌, ◌++◌, ◌↔◌, [], IsTrue, IfOk, IfErr, OnOk, OnErr};
 ghost use Rattle.spec_lists.specs.Piece.{old_len, new_len, normal, identity, IsNormal};
 ghost use Rattle.spec_lists.specs.Delta.{composed, one_insert, one_set, one_remove};
 ghost use Rattle.spec_lists.specs.Cells.{pieces_in, cells_of};

@@ -1,7 +1,7 @@
 //! The edits of a delta's pieces that compose it with one change of its new list.
 
 ghost use Rattle.std.specs.Prelude.{◌≡◌, ◌+◌, ◌-◌, ◌*◌, ◌<◌, ◌≤◌, ◌++◌, ◌∷◌, length, take, drop, IfErr, OnOk, OnErr, Some, slice_get, suc, true};
-ghost use Rattle.spec_lists.specs.Piece.{kept, deleted, old_len, new_len, normal, IsNormal};
+ghost use Rattle.spec_lists.specs.Piece.{kept, new_len, normal, IsNormal};
 ghost use Rattle.spec_lists.specs.Changes.{changed_len};
 ghost use Rattle.spec_lists.specs.Delta.{one_insert, one_set, one_remove};
 ghost use Rattle.gl_delta.specs.Marks.{piece_of, IsOn};

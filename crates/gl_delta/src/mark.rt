@@ -1,7 +1,7 @@
 //! What became of an element that isn't kept, and the colours by which pieces are stored.
 
 ghost use Rattle.std.specs.Prelude.{◌≡◌, ◌<◌};
-ghost use Rattle.gl_delta.specs.Marks.{piece_of, IsOn, kind_of};
+ghost use Rattle.gl_delta.specs.Marks.{piece_of, IsOn};
 ghost use Rattle.gl_delta.specs.Store.{colour_of, kind_by, mask_of};
 
 use gl_value::Value;

@@ -2,7 +2,6 @@
 
 ghost use Rattle.std.specs.Prelude.{◌≡◌, ◌≤◌, length};
 ghost use Rattle.spec_lists.specs.Piece.{new_len};
-ghost use Rattle.spec_lists.specs.Sides.{sides};
 ghost use Rattle.gl_delta.specs.Part.{part_of, part_items};
 
 use crate::delta::Delta;

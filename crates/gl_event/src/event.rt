@@ -1,6 +1,6 @@
 //! An event: what became of a list, told as changes one after another.
 
-ghost use Rattle.std.specs.Prelude.{◌≡◌, ◌+◌, ◌≤◌, ⊤, drop, option_map, slice_get};
+ghost use Rattle.std.specs.Prelude.{◌≡◌, ◌+◌, ⊤, drop, option_map, slice_get};
 ghost use Rattle.spec_lists.specs.Piece.{old_len};
 ghost use Rattle.spec_lists.specs.Cells.{cells_of};
 ghost use Rattle.spec_lists.specs.Changes.{changes, changed_len};

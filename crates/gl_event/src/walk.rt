@@ -1,6 +1,6 @@
 //! The changes of an event, one after another.
 
-ghost use Rattle.std.specs.Prelude.{◌≡◌, ◌+◌, ◌^◌, ◌<◌, ◌≤◌, length, IfSome};
+ghost use Rattle.std.specs.Prelude.{◌≡◌, ◌+◌, ◌<◌, ◌≤◌, length, IfSome};
 ghost use Rattle.std.specs.Iterator.{YieldsFirstBy, item_count};
 ghost use Rattle.gl_event.specs.Blocks.{behind, run, run_end};
 ghost use Rattle.gl_event.specs.Changes.{change_ref, changes_rest, IsFew};

@@ -1,8 +1,8 @@
 -- What a list shows by the nodes at the front, and by all.
 use Rattle.std.proofs.Common.{◌≡◌, ◌∙◌, ℕ, zero, suc, Bool, true, false, ltb, ◌<◌, ◌≤◌, List, [], ◌∷◌, length, map, take, refl, ap, sym, subst, arith, inl, inr}
-use Rattle.std.specs.Prelude.{Option, Some, None, slice_get, slice_index, unwrap_or}
+use Rattle.std.specs.Prelude.{Some, slice_get, slice_index, unwrap_or}
 use Rattle.std.specs.List.{Contains}
-use Rattle.std.proofs.lemmas.Option.{slice_get_past, slice_get_within}
+use Rattle.std.proofs.lemmas.Option.{slice_get_past}
 use Rattle.std.proofs.lemmas.List.FromFn.{length-map-range_with_len}
 use Rattle.spec_order.proofs.Members.{Contains-cons_cases, Contains-here}
 use Rattle.spec_value.specs.Tree.{Tree}
@@ -16,7 +16,7 @@ use Rattle.spec_states.proofs.Views.{view_local, views_of_state, length-table_of
 use Rattle.gl_graph.specs.declared.kernel.Kernel.{Kernel}
 use Rattle.gl_graph.specs.declared.kernel.Kernel.TheVariants.{Source, Filter, Range, Function}
 use Rattle.gl_graph.specs.declared.node.Node.{Node}
-use Rattle.gl_graph.specs.Nodes.{own_of, own_in, state_of, numbers, shown_by, OnInput, IsPlaced, IsInTurn, AreInTurn, IsSettled, AreSettled, StandsFor}
+use Rattle.gl_graph.specs.Nodes.{own_of, own_in, state_of, numbers, shown_by, OnInput, IsPlaced, AreInTurn, IsSettled, AreSettled, StandsFor}
 use Rattle.gl_graph.specs.Graph.{IsGraph}
 use Rattle.gl_graph.proofs.Showing.{turn_shows, placed_before}
 

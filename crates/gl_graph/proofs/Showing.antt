@@ -1,15 +1,15 @@
 -- Each node in its turn shows its view of what its input shows.
-use Rattle.std.proofs.Common.{◌≡◌, ◌≢◌, ◌∙◌, ℕ, zero, suc, ◌+◌, ◌<◌, List, [], ◌∷◌, ◌++◌, length, map, option_map, take, refl, ap, sym, subst, arith, inl, inr}
+use Rattle.std.proofs.Common.{◌≡◌, ◌∙◌, ℕ, zero, suc, ◌+◌, ◌<◌, List, [], ◌∷◌, ◌++◌, length, map, option_map, take, refl, ap, sym, subst, arith, inl, inr}
 use Rattle.std.specs.Prelude.{Option, Some, None, slice_get, slice_index, unwrap_or}
-use Rattle.std.specs.List.{Contains, range_with_len}
+use Rattle.std.specs.List.{Contains}
 use Rattle.std.proofs.Math.Seq.{take-append_seam}
-use Rattle.std.proofs.lemmas.List.{append_assoc, map-append, length-map, length-append}
+use Rattle.std.proofs.lemmas.List.{append_assoc, map-append, length-map}
 use Rattle.std.proofs.lemmas.List.Elements.{Contains-get_or}
 use Rattle.std.proofs.lemmas.List.FromFn.{get_or-map-range_with_len, length-map-range_with_len}
-use Rattle.std.proofs.lemmas.Option.{unwrap_or-slice_get, slice_get_within, get_or_from_slice_get, slice_get-get_or, slice_get-map}
+use Rattle.std.proofs.lemmas.Option.{unwrap_or-slice_get, slice_get_within, get_or_from_slice_get, slice_get-map}
 use Rattle.spec_order.proofs.Members.{Contains-cons_cases}
 use Rattle.spec_value.specs.Tree.{Tree}
-use Rattle.spec_states.specs.State.{Own, State, source, inputs, own_at}
+use Rattle.spec_states.specs.State.{State, source, inputs, own_at}
 use Rattle.spec_states.specs.Shown.{view, nothing_shown}
 use Rattle.spec_states.proofs.Turns.{Follow}
 use Rattle.spec_states.proofs.Settling.{settled_is}
@@ -19,7 +19,7 @@ use Rattle.gl_kernel.specs.Found.{found}
 use Rattle.gl_graph.specs.declared.kernel.Kernel.{Kernel}
 use Rattle.gl_graph.specs.declared.kernel.Kernel.TheVariants.{Source, Filter, Range, Function}
 use Rattle.gl_graph.specs.declared.node.Node.{Node}
-use Rattle.gl_graph.specs.Nodes.{own_of, own_of_node, own_in, state_of, numbers, shown_by, input_of, input_shown, OnInput, StandsFor, IsPlaced, IsInTurn, AreInTurn, IsSettled, AreSettled}
+use Rattle.gl_graph.specs.Nodes.{own_of, own_of_node, own_in, state_of, numbers, shown_by, input_of, input_shown, OnInput, StandsFor, IsPlaced, IsInTurn, AreInTurn, AreSettled}
 
 -- what a list of the state keeps
 pub own_at_state : (nodes : List Node) (places : List ℕ) (list : ℕ) → list < length places → own_at (state_of nodes places) list ≡ own_in nodes places list

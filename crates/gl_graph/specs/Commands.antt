@@ -1,6 +1,5 @@
 -- Which commands suit which lists, and the edits of sources that they come to.
-use Rattle.std.specs.Prelude.{◌≡◌, ◌<◌, ◌≤◌, ℕ, List, [], ◌∷◌, length, Option, None, Some}
-use Rattle.spec_value.specs.Tree.{Tree}
+use Rattle.std.specs.Prelude.{◌≡◌, ◌<◌, ◌≤◌, ℕ, [], ◌∷◌, Option, None, Some}
 use Rattle.gl_lines.specs.declared.plan.Command.{Command}
 use Rattle.gl_lines.specs.declared.plan.Command.TheVariants as c
 use Rattle.gl_lines.specs.declared.reply.Reply.{Reply}

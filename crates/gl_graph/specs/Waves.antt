@@ -6,7 +6,7 @@ use Rattle.gl_lines.specs.declared.reply.Reply.TheVariants as reply
 use Rattle.gl_delta.specs.Told.{Told}
 use Rattle.spec_states.specs.State.{State}
 use Rattle.spec_states.specs.Shown.{shown}
-use Rattle.spec_states.specs.Wave.{Deltas, delta_in, wave_deltas}
+use Rattle.spec_states.specs.Wave.{delta_in, wave_deltas}
 use Rattle.spec_states.specs.Step.{unmoved}
 use Rattle.gl_graph.specs.declared.node.Node.{Node}
 use Rattle.gl_graph.specs.declared.kernel.Kernel.{Kernel}

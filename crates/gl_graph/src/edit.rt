@@ -1,7 +1,6 @@
 //! How a source is edited by commands.
 
-ghost use Rattle.std.specs.Prelude.{◌≡◌, ◌≤◌, ◌∷◌, [], length, None, Some, IfErr, IfOk, OnOk, OnErr, ℕ};
-ghost use Rattle.spec_lists.specs.Piece.{Piece};
+ghost use Rattle.std.specs.Prelude.{◌≡◌, ◌≤◌, ◌∷◌, [], None, Some, IfErr, IfOk, OnOk, OnErr, ℕ};
 ghost use Rattle.gl_source.specs.Stands as source_stands;
 ghost use Rattle.spec_states.specs.State.{source as sourcing};
 ghost use Rattle.spec_states.specs.Wave.{change, edit as told_by, edited, kept_after};

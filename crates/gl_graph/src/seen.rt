@@ -1,9 +1,9 @@
 //! A list seen through the lists before it.
 
-ghost use Rattle.std.specs.Prelude.{◌≡◌, length, map, slice_get, slice_index, Some};
+ghost use Rattle.std.specs.Prelude.{◌≡◌, length, slice_get, slice_index, Some};
 ghost use Rattle.std.specs.Option.{option_copied};
 ghost use Rattle.gl_graph.specs.declared.node.Node.{Node};
-ghost use Rattle.gl_graph.specs.Nodes.{numbers, shown_by, AreSettled, IsPlaced};
+ghost use Rattle.gl_graph.specs.Nodes.{shown_by, AreSettled, IsPlaced};
 
 use crate::node::Node;
 use gl_delta::Find;

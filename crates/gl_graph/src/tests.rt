@@ -1,4 +1,4 @@
-ghost use Rattle.std.specs.Prelude.{◌≤◌, IsTrue, OnOk};
+ghost use Rattle.std.specs.Prelude.{IsTrue};
 ghost use Rattle.gl_graph.specs.Opening.{IsKindBuilt, AreKindsBuilt};
 
 use crate::{BuildFault, Graph};

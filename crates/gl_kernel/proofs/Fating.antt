@@ -1,14 +1,12 @@
 -- The edits that bring about what becomes of each item do so.
-use Rattle.std.specs.Prelude.{◌≡◌, ℕ, zero, suc, ◌+◌, ◌<◌, ◌≤◌, List, [], ◌∷◌, ◌++◌, length, insert, remove, slice_get, slice_set, take, drop, map, refl}
+use Rattle.std.specs.Prelude.{◌≡◌, ℕ, zero, suc, ◌+◌, ◌≤◌, List, [], ◌∷◌, ◌++◌, length, insert, remove, slice_set, map, refl}
 use Rattle.std.proofs.Common.{ap, sym, ◌∙◌, arith, append_assoc, subst}
 use Rattle.std.proofs.lemmas.List.{length-append}
 use Rattle.spec_value.specs.Tree.{Tree}
 use Rattle.spec_lists.specs.Piece.{Piece, kept, updated, deleted, inserted, old_len, new_len}
 use Rattle.spec_lists.specs.Leads.{LeadsFrom, applied}
 use Rattle.spec_lists.proofs.Leading.{length_from}
-use Rattle.gl_kernel.specs.declared.edit.Edit.{Edit}
-use Rattle.gl_kernel.specs.declared.edit.Edit.TheVariants.{Insert, Remove, Set}
-use Rattle.gl_kernel.specs.Edits.{edited, IsWithin, AreWithin, played, insertions}
+use Rattle.gl_kernel.specs.Edits.{AreWithin, played, insertions}
 use Rattle.gl_kernel.specs.Fates.{Fate, stays, becomes, goes, comes, outcome, spoken, edits_of, fate}
 
 module _ {T : Type 0} where

@@ -1,5 +1,5 @@
 -- The old list of a delta, made of the new one.
-use Rattle.std.specs.Prelude.{◌≡◌, List, map, refl}
+use Rattle.std.specs.Prelude.{List, map, refl}
 use Rattle.std.proofs.Common.{ap, ◌∙◌, subst}
 use Rattle.spec_value.specs.Tree.{Tree}
 use Rattle.spec_lists.specs.Piece.{Piece, turned, normal, IsNormal}

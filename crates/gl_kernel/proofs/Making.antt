@@ -1,6 +1,6 @@
 -- Building what a function gives of each element, one after another.
 use Rattle.std.specs.Prelude.{◌≡◌, ℕ, zero, suc, List, [], ◌∷◌, ◌++◌, length, insert, take, map, slice_get, Some, refl}
-use Rattle.std.proofs.Common.{ap, sym, ◌∙◌, arith}
+use Rattle.std.proofs.Common.{ap, ◌∙◌}
 use Rattle.spec_value.specs.Tree.{Tree}
 
 module _ {T : Type 0} where

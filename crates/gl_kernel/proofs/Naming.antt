@@ -1,6 +1,6 @@
 -- The values of a list under handles, by their places.
-use Rattle.std.specs.Prelude.{◌≡◌, ℕ, zero, suc, ◌<◌, List, [], ◌∷◌, length, insert, remove, slice_get, Some, None, Option, Contains, map, take, drop, refl}
-use Rattle.std.proofs.Common.{ap, sym, ◌∙◌, arith}
+use Rattle.std.specs.Prelude.{◌≡◌, ℕ, zero, suc, List, [], ◌∷◌, length, insert, remove, slice_get, Some, None, Option, Contains, refl}
+use Rattle.std.proofs.Common.{ap, sym, ◌∙◌}
 use Rattle.gl_counted.specs.Counted.{handles, AreDistinct}
 use Rattle.gl_counted.proofs.Holding.{get_from_Contains}
 use Rattle.gl_kernel.specs.Values.{unnamed}

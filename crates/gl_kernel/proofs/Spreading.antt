@@ -1,9 +1,9 @@
 -- The pieces of a delta's cells are its own, and what is told of them piece by piece.
-use Rattle.std.specs.Prelude.{◌≡◌, ℕ, zero, suc, ◌+◌, ◌<◌, ◌≤◌, List, [], ◌∷◌, ◌++◌, length, map, replicate, refl}
+use Rattle.std.specs.Prelude.{◌≡◌, ℕ, zero, suc, ◌+◌, ◌≤◌, List, [], ◌∷◌, ◌++◌, map, replicate, refl}
 use Rattle.std.proofs.Common.{ap, sym, ◌∙◌, arith, append_assoc}
 use Rattle.spec_value.specs.Tree.{Tree}
 use Rattle.spec_lists.specs.Piece.{Piece, kept, updated, deleted, inserted, old_len, new_len, normal, insert_first}
-use Rattle.spec_lists.specs.Cells.{Cell, keep, update, delete, insert, keep_first, cells_of, pieces_in}
+use Rattle.spec_lists.specs.Cells.{Cell, keep, update, delete, insert, keep_first, cells_of}
 use Rattle.spec_lists.proofs.Normal.{old_len-normal, new_len-normal}
 use Rattle.spec_lists.proofs.Changing.{old_len-append, new_len-append}
 use Rattle.gl_kernel.specs.declared.edit.Edit.{Edit}

@@ -1,9 +1,8 @@
 -- How much more room a list may take after one edit.
-use Rattle.std.specs.Prelude.{◌≡◌, ℕ, zero, suc, ◌+◌, ◌<◌, ◌≤◌, Bool, true, false, cond, List, [], ◌∷◌, length, insert, remove, slice_set, take, drop}
+use Rattle.std.specs.Prelude.{ℕ, zero, suc, ◌+◌, ◌≤◌, Bool, true, false, cond, List, [], ◌∷◌, length, insert, remove, slice_set}
 use Rattle.std.proofs.Common.{arith}
 use Rattle.std.proofs.lemmas.List.Edits.{length-insert, length-remove}
 use Rattle.std.proofs.lemmas.List.{length-set}
-use Rattle.spec_value.specs.Tree.{Tree}
 use Rattle.gl_barcode.specs.Bars.{stretch_count, begins_alike, same}
 use Rattle.gl_kernel.specs.declared.edit.Edit.{Edit}
 use Rattle.gl_kernel.specs.declared.edit.Edit.TheVariants.{Insert, Remove, Set}

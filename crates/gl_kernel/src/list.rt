@@ -1,8 +1,6 @@
 //! A list of values in a balanced tree.
 
-ghost use Rattle.std.specs.Prelude.{◌≡◌, ◌+◌, ◌<◌, ◌≤◌, [], length, insert, remove, slice_get, slice_set, Some, OnOk};
-ghost use Rattle.std.specs.Option.{option_copied};
-ghost use Rattle.gl_kernel.specs.Edits.{Fits};
+ghost use Rattle.std.specs.Prelude.{◌≡◌, ◌+◌, ◌<◌, [], length, insert, remove, Some};
 
 use crate::editable::Editable;
 use gl_counted::Counted;

@@ -11,7 +11,7 @@ use Rattle.spec_lang.specs.declared.Test.{Test}
 use Rattle.spec_lang.specs.Matcher as meant
 use Rattle.spec_syntax.specs.Number.{is_digit}
 use Rattle.spec_syntax.specs.Matcher as grammar
-use Rattle.spec_syntax.specs.Matcher.{conjunction, disjunction, up_to_or, behind_or, chained, joint_words, joined_unit, test_words, tested, comparison, Form, formed, flat_words, unit_words, unit}
+use Rattle.spec_syntax.specs.Matcher.{conjunction, disjunction, up_to_or, behind_or, chained, joint_words, joined_unit, test_words, tested, comparison, formed, flat_words, unit_words, unit}
 use Rattle.spec_syntax.specs.ValueReader.{is}
 use Rattle.spec_syntax.specs.LanguageReader.{read_joined, read_chain, read_tested, read_comparison, read_formed, read_unit}
 use Rattle.spec_syntax.proofs.Matchers.{tested_reads, has_comparison, comparison_reads, formed_reads, has_unit, unit_reads, begun_joined}

@@ -1,7 +1,7 @@
 //! Lines of composites: a name, members, each behind a space, and behind ` may ` the lists that may become members.
 
 ghost use Rattle.std.specs.Prelude.{◌+◌, ◌<◌, ◌^◌, [], length};
-ghost use Rattle.spec_grammar.specs.Reader.{made, stopped, behind};
+ghost use Rattle.spec_grammar.specs.Reader.{made};
 ghost use Rattle.spec_lines.specs.Line as form;
 ghost use Rattle.spec_lines.specs.Line.{in_row};
 ghost use Rattle.spec_lines.specs.Reader.{read_formed, read_may};

@@ -2,7 +2,7 @@
 
 ghost use Rattle.std.specs.Prelude.{◌≡◌, ◌∷◌, ◌++◌, [], codes, IfOk};
 ghost use Rattle.spec_grammar.specs.Reader.{behind, close, sep};
-ghost use Rattle.spec_syntax.specs.ValueReader.{is, read_elements, read_others};
+ghost use Rattle.spec_syntax.specs.ValueReader.{read_elements, read_others};
 ghost use Rattle.spec_syntax.specs.LanguageReader.{read_path, read_flat_func, read_func, read_adding, read_listing};
 ghost use Rattle.gl_syntax.specs.Stop.{Reads};
 

@@ -1,6 +1,6 @@
 //! What lines name, by number.
 
-ghost use Rattle.std.specs.Prelude.{◌≡◌, ◌<◌, ◌≤◌, ◌++◌, ◌==◌, [], ◌∷◌, ℕ, if◌then◌else◌, length, option_to_list, slice_get, unwrap_or, IfOk};
+ghost use Rattle.std.specs.Prelude.{◌≡◌, ◌<◌, ◌≤◌, ◌++◌, ◌==◌, [], ◌∷◌, ℕ, if◌then◌else◌, length, option_to_list, IfOk};
 ghost use Rattle.spec_plans.specs.Names.{heads, hearers};
 ghost use Rattle.spec_plans.specs.Making.{row_for, rows_for};
 ghost use Rattle.gl_plan.specs.Tables.{AreTables, rows_at};

@@ -1,8 +1,8 @@
 //! What is wrong with the names of a line.
 
 ghost use Rattle.std.specs.Prelude.{◌≡◌, if◌then◌else◌, None, take, unwrap_or, option_and_then, option_copied};
-ghost use Rattle.std.specs.Option.{is_some, option_or};
-ghost use Rattle.spec_plans.specs.Names.{list_names, listener_names, number_of};
+ghost use Rattle.std.specs.Option.{option_or};
+ghost use Rattle.spec_plans.specs.Names.{list_names, listener_names};
 ghost use Rattle.spec_plans.specs.NameFaults.{wrong, class_number, meets, use_fault, after_fault, first_fault, taken_fault, proxy_fault, shuns_proxies, is_undone, input_need, list_fault, listener_fault, member_fault, attach_fault, name_fault};
 ghost use Rattle.gl_plan_faults.specs.Seen.{head_seen, hearer_seen};
 ghost use Rattle.gl_plan_faults.specs.Known.{IsKnown};

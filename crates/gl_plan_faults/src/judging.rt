@@ -5,7 +5,6 @@ ghost use Rattle.spec_plans.specs.Lines.{head_of, hearer_of};
 ghost use Rattle.spec_plans.specs.Names.{heads, hearers};
 ghost use Rattle.spec_plans.specs.NameFaults.{undone_inputs, first_misnamed, first_fault_at};
 ghost use Rattle.gl_plan_faults.specs.Known.{IsKnown};
-ghost use Rattle.gl_plan_faults.specs.Passed.{HasPassed};
 
 use crate::judge::name_fault;
 use crate::known::Known;

@@ -1,6 +1,6 @@
 //! Lines that may not stand where they stand, or are too many.
 
-ghost use Rattle.std.specs.Prelude.{◌≡◌, ◌<◌, ◌^◌, ◌++◌, ◌∷◌, [], List, not, ◌||◌, ◌&&◌, ◌==◌};
+ghost use Rattle.std.specs.Prelude.{◌≡◌, ◌<◌, ◌^◌, ◌++◌, ◌∷◌, [], List, ◌||◌, ◌&&◌, ◌==◌};
 ghost use Rattle.gl_lines.specs.declared.line.NumberedLine.{NumberedLine as Numbered};
 ghost use Rattle.spec_plans.specs.Place.{first_misplaced, is_out_of_place, is_too_many, place_fault};
 ghost use Rattle.gl_plan_faults.specs.Before.{StandsBehind};

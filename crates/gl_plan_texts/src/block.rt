@@ -1,7 +1,7 @@
 //! Blocks of CSV records.
 
-ghost use Rattle.std.specs.Prelude.{◌≡◌, ◌<◌, ◌≤◌, ◌+◌, ◌-◌, ◌^◌, ◌∷◌, ◌++◌, [], length, codes, IsUtf8, OnOk, IfSome, MatchResult, MatchOption, None};
-ghost use Rattle.spec_texts.specs.Cuts.{cut, lines_in};
+ghost use Rattle.std.specs.Prelude.{◌≡◌, ◌<◌, ◌+◌, ◌-◌, ◌^◌, ◌++◌, [], length, IsUtf8, OnOk, MatchResult, MatchOption, None};
+ghost use Rattle.spec_texts.specs.Cuts.{cut};
 ghost use Rattle.spec_plan_texts.specs.Reading.{rows_of};
 ghost use Rattle.gl_plan_texts.specs.Goes.{IsReading};
 ghost use Rattle.gl_plan_texts.specs.Blocks.{IsBlock, IsEndless, IsBehind, BlockGoesOn, BlockStops};

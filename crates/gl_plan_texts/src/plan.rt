@@ -1,6 +1,6 @@
 //! The plan of a text.
 
-ghost use Rattle.std.specs.Prelude.{◌≡◌, ◌≤◌, ◌<◌, ◌+◌, ◌^◌, ◌∷◌, ℕ, List, length, take, codes, IsUtf8, MatchResult, MatchOption};
+ghost use Rattle.std.specs.Prelude.{◌≡◌, ◌≤◌, ◌<◌, ◌+◌, length, take, IsUtf8, MatchResult, MatchOption};
 ghost use Rattle.spec_texts.specs.Cuts.{lines_in};
 ghost use Rattle.spec_plan_texts.specs.Text.{SpellsPlan, place_behind, utf8_fault};
 ghost use Rattle.gl_plan_texts.specs.Spelled.{IsFault, IsHeader, LacksHeader, Makes, FailsBehind, IsPlaceFault};

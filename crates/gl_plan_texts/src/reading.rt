@@ -1,6 +1,6 @@
 //! The lines of a plan's text, one after another.
 
-ghost use Rattle.std.specs.Prelude.{◌≡◌, ◌<◌, ◌≤◌, ◌+◌, ◌-◌, ◌^◌, ◌⊎◌, ◌↔◌, ◌∷◌, ◌++◌, [], length, IsUtf8, IfOk, OnOk, IsTrue, MatchResult, false};
+ghost use Rattle.std.specs.Prelude.{◌≡◌, ◌<◌, ◌+◌, ◌-◌, ◌^◌, ◌↔◌, ◌∷◌, ◌++◌, [], length, IsUtf8, IfOk, OnOk, IsTrue, MatchResult, false};
 ghost use Rattle.spec_texts.specs.Cuts.{lines_in};
 ghost use Rattle.spec_plan_texts.specs.Reading.{all_read, outside, Comes, IsSkipped, opened_by, numbered, SpellsLine};
 ghost use Rattle.spec_plans.specs.Place.{is_too_many};

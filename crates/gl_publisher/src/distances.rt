@@ -1,4 +1,4 @@
-ghost use Rattle.std.specs.Prelude.{◌≡◌, [], ◌<◌, ◌≤◌, length, vec_len, All, IfOk, OnOk};
+ghost use Rattle.std.specs.Prelude.{[], ◌<◌, vec_len, All, IfOk, OnOk};
 ghost use Rattle.gl_publisher.specs.Distances.{AreDistances, IsDependent, IsRelatedToSome, EndsWith, Finds};
 
 use super::neighbours::Neighbours;

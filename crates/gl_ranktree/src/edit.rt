@@ -1,6 +1,6 @@
 // Putting a node into a tree at a place, taking one out, and another own summary for one. Each
 // goes down from the root and joins on its way back, so no tree is unbalanced in between.
-ghost use Rattle.std.specs.Prelude.{◌≡◌, ◌<◌, ◌≤◌};
+ghost use Rattle.std.specs.Prelude.{◌<◌, ◌≤◌};
 ghost use Rattle.gl_ranktree.specs.Tree.{Tree, tree_size, tree_height};
 ghost use Rattle.gl_ranktree.specs.Edits.{Stands, CanInsert, SomeCanInsert, Inserts, SomeFilled, TakesFirst, CanMerge, SomeCanMerge, Merges, SomeWithPlace, Removes, SetsOwn};
 

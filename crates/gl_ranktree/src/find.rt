@@ -1,5 +1,5 @@
 // Finding the node at a place, and the place of a node.
-ghost use Rattle.std.specs.Prelude.{◌≡◌, ◌<◌, ◌≤◌, ℕ, List, length};
+ghost use Rattle.std.specs.Prelude.{◌≡◌, ◌<◌, ℕ, List, length};
 ghost use Rattle.gl_ranktree.specs.Tree.{Tree, tree_size};
 ghost use Rattle.gl_ranktree.specs.Edits.{Stands, SomeWithPlace};
 ghost use Rattle.gl_ranktree.specs.Finds.{IsWithin, SomeWithin, IsEntryAt};

@@ -1,5 +1,5 @@
 // The nodes of a tree in one slice, and the one step by which they are linked.
-ghost use Rattle.std.specs.Prelude.{◌≡◌, ◌<◌, ◌^◌, length};
+ghost use Rattle.std.specs.Prelude.{◌≡◌, ◌<◌, length};
 ghost use Rattle.gl_ranktree.specs.Tree.{Tree, fork, DifferByAtMost};
 ghost use Rattle.gl_ranktree.specs.Nodes.{node_at, Puts, Reparents, Sides, SomeSides, Becomes, IsJoint};
 

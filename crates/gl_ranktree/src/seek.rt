@@ -1,5 +1,5 @@
 // Finding the entry at which the measure of the entries so far passes a number.
-ghost use Rattle.std.specs.Prelude.{◌≡◌, IsTrue};
+ghost use Rattle.std.specs.Prelude.{IsTrue};
 ghost use Rattle.gl_ranktree.specs.Tree.{Tree, inorder, tree_sum};
 ghost use Rattle.gl_ranktree.specs.Edits.{Stands};
 ghost use Rattle.gl_ranktree.specs.Sought.{IsSought, SomeFitting};

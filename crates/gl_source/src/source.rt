@@ -1,6 +1,6 @@
 //! A source.
 
-ghost use Rattle.std.specs.Prelude.{◌≡◌, ◌<◌, ◌≤◌, ◌↔◌, ℕ, [], length, Err, IfOk, OnOk, OnErr};
+ghost use Rattle.std.specs.Prelude.{◌≡◌, ◌<◌, ◌≤◌, ◌↔◌, ℕ, length, Err, IfOk, OnOk, OnErr};
 ghost use Rattle.spec_lists.specs.Piece.{new_len};
 ghost use Rattle.spec_lists.specs.Leads.{LeadsFrom, IsDelta, applied};
 ghost use Rattle.gl_source.specs.Edits.{edited, told, IsOutOfRange, IsTooLong};

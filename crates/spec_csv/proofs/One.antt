@@ -1,5 +1,5 @@
 -- A block stands for the elements of one list, and of no other.
-use Rattle.std.proofs.Common.{◌≡◌, ◌∙◌, ◌<◌, ◌^◌, ℕ, ℤ, List, [], ◌∷◌, Option, Some, None, refl, sym, ap, subst, arith}
+use Rattle.std.proofs.Common.{◌≡◌, ◌∙◌, ◌<◌, ◌^◌, ℕ, ℤ, List, [], ◌∷◌, None, refl, sym, ap, subst, arith}
 use Rattle.std.specs.Prelude.{FitsSigned}
 use Rattle.std.specs.Int.Signed.{mag}
 use Rattle.std.specs.Int.{w64}
@@ -10,7 +10,7 @@ use Rattle.csv.specs.Reading.{default_config, strip_bom, Reached}
 use Rattle.csv.specs.declared.parser.State.{State}
 use Rattle.csv.specs.declared.parser.State.TheVariants.{StartRecord}
 use Rattle.spec_value.specs.Tree.{Tree, num, text, items, items_of}
-use Rattle.spec_csv.specs.Block.{SpellsNumber, IsField, AreFields, IsRow, AreRows, BlockHas}
+use Rattle.spec_csv.specs.Block.{SpellsNumber, IsField, AreFields, AreRows, BlockHas}
 
 -- records that are read to the end are the only ones
 one_records : (rs qs : List (List (List ℕ))) (s t u : State) (xs ys zs : List ℕ) → Reached default_config s xs rs t ys → next_record default_config t [] [] ys ≡ None

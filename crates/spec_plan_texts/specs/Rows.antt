@@ -1,5 +1,5 @@
 -- Worked rows of the definitions.
-use Rattle.std.specs.Prelude.{◌≡◌, ℕ, refl, codes}
+use Rattle.std.specs.Prelude.{◌≡◌, refl, codes}
 use Rattle.spec_plan_texts.specs.Text.{place_behind}
 
 -- behind the first line and two bytes of the second

@@ -1,5 +1,5 @@
 -- The plan that a text spells, and the first fault of a text that spells none.
-use Rattle.std.specs.Prelude.{◌≡◌, ◌+◌, ◌⊎◌, ℕ, ◌==◌, suc, if◌then◌else◌, List, [], ◌∷◌, length, codes, take, count_by, Option, Some, None, IsUtf8}
+use Rattle.std.specs.Prelude.{◌≡◌, ◌+◌, ℕ, ◌==◌, suc, if◌then◌else◌, List, [], ◌∷◌, codes, take, count_by, Some, None, IsUtf8}
 use Rattle.std.specs.Str.Lossy.{utf8_valid_len}
 use Rattle.spec_texts.specs.Cuts.{lines_in}
 use Rattle.gl_lines.specs.declared.line.NumberedLine.{NumberedLine}

@@ -1,5 +1,5 @@
 -- Worked rows of the definitions, each by computing.
-use Rattle.std.specs.Prelude.{◌≡◌, pos, [], ◌∷◌, Some, refl, codes}
+use Rattle.std.specs.Prelude.{◌≡◌, pos, [], ◌∷◌, refl, codes}
 use Rattle.std.specs.Fmt.{digits}
 use Rattle.spec_value.specs.Tree.{num}
 use Rattle.spec_lists.specs.Changes.{delete, insertion}
@@ -12,7 +12,7 @@ use Rattle.spec_runs.specs.Rows.{short, watched, pair, number_above, told_after}
 use Rattle.spec_reports.specs.Order.{spelled_order}
 use Rattle.spec_reports.specs.Event.{changes_text}
 use Rattle.spec_reports.specs.Report.{report}
-use Rattle.spec_reports.specs.Answer.{Outcome, too_long, unbuilt, misfit, replayed, text_of_outcome}
+use Rattle.spec_reports.specs.Answer.{too_long, unbuilt, misfit, replayed, text_of_outcome}
 
 orders : spelled_order (Writer 0 ∷ Proxy 12 ∷ []) ≡ codes "w0,p12"
 unfolding digits

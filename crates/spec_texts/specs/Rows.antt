@@ -1,5 +1,5 @@
 -- Worked rows of the definitions, each by computing.
-use Rattle.std.specs.Prelude.{◌≡◌, negsuc, List, [], ◌∷◌, refl, codes}
+use Rattle.std.specs.Prelude.{◌≡◌, negsuc, [], ◌∷◌, refl, codes}
 use Rattle.std.specs.Fmt.{digits}
 use Rattle.spec_value.specs.Tree.{num, text, items_of}
 use Rattle.spec_texts.specs.Value.{spelled_value}

@@ -1,4 +1,4 @@
-use Rattle.std.proofs.Common.{◌≡◌, ◌-◌, length, sym, subst}
+use Rattle.std.proofs.Common.{◌-◌, length, sym, subst}
 use Rattle.gl_app.specs.Answer.{text_at}
 use Rattle.gl_app.specs.Call.{IsAhead}
 use Rattle.gl_app.proofs.CallLaws.{is_answer, quiet_answer, reports_run, writes_plan, usage_without_form, not_ahead, room_for}

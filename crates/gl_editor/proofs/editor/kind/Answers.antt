@@ -1,4 +1,4 @@
-use Rattle.std.proofs.Common.{◌≡◌, sym, subst}
+use Rattle.std.proofs.Common.{sym, subst}
 use Rattle.spec_lang.specs.declared.EditKind.{EditKind}
 use Rattle.spec_lang.specs.Kind as spec
 use Rattle.spec_lang.proofs.KindLaws.{kind_says}

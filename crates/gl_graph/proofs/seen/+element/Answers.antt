@@ -1,8 +1,7 @@
-use Rattle.std.proofs.Common.{◌≡◌, ◌∙◌, ◌<◌, take, ap, sym, subst}
-use Rattle.std.specs.Prelude.{None, Some, slice_get, slice_index}
-use Rattle.gl_delta.specs.declared.find.Find.TheVariants.{Input, Child, Own}
+use Rattle.std.proofs.Common.{◌∙◌, ◌<◌, take, ap, sym, subst}
+use Rattle.std.specs.Prelude.{Some, slice_get, slice_index}
 use Rattle.gl_kernel.specs.Found.{found}
-use Rattle.gl_graph.specs.Nodes.{shown_by, input_shown, OnInput, IsPlaced}
+use Rattle.gl_graph.specs.Nodes.{shown_by, input_shown, IsPlaced}
 use Rattle.gl_graph.proofs.Showing.{find_shows, none_of_input, some_of_input, on_input, placed_before}
 use Rattle.gl_graph.proofs.seen.+element.Goals as goal
 

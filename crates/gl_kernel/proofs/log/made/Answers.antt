@@ -1,9 +1,9 @@
-use Rattle.std.proofs.Common.{◌≡◌, ◌∙◌, ◌<◌, ◌≤◌, ap, sym, length, insert, remove, slice_set, List, subst, arith}
+use Rattle.std.proofs.Common.{◌∙◌, ◌<◌, ◌≤◌, ap, length, insert, remove, slice_set, List, subst, arith}
 use Rattle.std.proofs.lemmas.List.Edits.{length-insert, length-remove}
 use Rattle.std.proofs.lemmas.List.{length-set}
 use Rattle.gl_kernel.specs.declared.edit.Edit.{Edit}
 use Rattle.gl_kernel.specs.declared.edit.Edit.TheVariants.{Insert, Remove, Set}
-use Rattle.gl_kernel.specs.Edits.{edited, IsWithin}
+use Rattle.gl_kernel.specs.Edits.{IsWithin}
 use Rattle.gl_kernel.proofs.Playing.{remove-insert, insert-remove, set-back, can_go_back}
 use Rattle.gl_kernel.proofs.log.made.Goals as goal
 

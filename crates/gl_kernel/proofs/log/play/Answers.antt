@@ -1,6 +1,6 @@
-use Rattle.std.proofs.Common.{◌≡◌, ◌∙◌, ◌∷◌, ◌++◌, ℕ, [], ◌+◌, ◌≤◌, List, length, ap, sym, subst, refl, arith}
+use Rattle.std.proofs.Common.{◌≡◌, ◌∙◌, ◌∷◌, ◌++◌, ℕ, [], ◌+◌, List, length, ap, sym, subst, refl, arith}
 use Rattle.gl_kernel.specs.declared.edit.Edit.{Edit}
-use Rattle.gl_kernel.specs.Edits.{edited, played, CanMake, CanPlay}
+use Rattle.gl_kernel.specs.Edits.{edited, played, CanPlay}
 use Rattle.gl_kernel.proofs.Playing.{played-append, fits_first, can_make_last, can_play_last, can_play_more}
 use Rattle.gl_kernel.proofs.log.play.Goals as goal
 

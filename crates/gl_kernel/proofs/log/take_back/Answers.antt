@@ -1,4 +1,4 @@
-use Rattle.std.proofs.Common.{◌≡◌, ◌∙◌, ℕ, ◌≤◌, List, ap, sym, subst, arith}
+use Rattle.std.proofs.Common.{◌≡◌, ◌∙◌, ℕ, List, ap, sym, subst, arith}
 use Rattle.gl_kernel.specs.declared.edit.Edit.{Edit}
 use Rattle.gl_kernel.specs.Edits.{edited, played, CanPlay}
 use Rattle.gl_kernel.proofs.Playing.{played-append, fits_first, can_make_last, can_play_more}

@@ -1,5 +1,4 @@
 use Rattle.std.proofs.Common.{◌≡◌, ◌++◌, length}
-use Rattle.spec_lists.specs.Changes.{changes}
 use Rattle.gl_event.specs.Changes.{changes_rest, IsFew}
 use Rattle.spec_reports.specs.Event.{event_text}
 use Rattle.gl_report.specs.Told.{changes_left}

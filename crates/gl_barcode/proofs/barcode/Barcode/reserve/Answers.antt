@@ -1,8 +1,4 @@
-use Rattle.std.proofs.Common.{◌≡◌, ◌<◌, ◌≤◌, ◌+◌, length, take, insert, remove, set, refl, sym, ap, ◌∙◌, arith, subst, rules}
-use Rattle.gl_fourcolour.specs.Colours.{Colours, inserted, painted, removed, AllBelow}
 use Rattle.gl_fourcolour.specs.Colours as colours
-use Rattle.gl_barcode.specs.Bars.{count_shown, spare}
-use Rattle.gl_barcode.specs.Held.{shown_of, colour_of}
 use Rattle.gl_barcode.proofs.Holding.{reserved}
 use Rattle.gl_barcode.proofs.barcode.Barcode.reserve.Goals as goal
 

@@ -1,7 +1,7 @@
-use Rattle.std.proofs.Common.{◌≡◌, ◌<◌, ◌≤◌, ◌+◌, length, take, insert, remove, set, refl, sym, ap, ◌∙◌, arith, subst, rules}
-use Rattle.gl_fourcolour.specs.Colours.{Colours, inserted, painted, removed, AllBelow}
+use Rattle.std.proofs.Common.{set, sym, ap, ◌∙◌, arith, subst}
+use Rattle.gl_fourcolour.specs.Colours.{painted, AllBelow}
 use Rattle.gl_fourcolour.specs.Colours as colours
-use Rattle.gl_barcode.specs.Bars.{count_shown, spare}
+use Rattle.gl_barcode.specs.Bars.{spare}
 use Rattle.gl_barcode.specs.Held.{shown_of, colour_of}
 use Rattle.gl_barcode.proofs.Holding.{held_is, has_room, colour_below, below-painted, shown-painted, spare_is}
 use Rattle.gl_barcode.proofs.barcode.Barcode.set_reserved.Goals as goal

@@ -1,4 +1,4 @@
-use Rattle.std.proofs.Common.{◌≡◌, ◌≤◌, ◌∙◌, length, ap, sym, subst, arith}
+use Rattle.std.proofs.Common.{◌≤◌, ◌∙◌, length, ap, sym, subst, arith}
 use Rattle.spec_states.specs.Shown.{shown}
 use Rattle.gl_graph.specs.Nodes.{AreSettled}
 use Rattle.gl_graph.specs.Nodes as made

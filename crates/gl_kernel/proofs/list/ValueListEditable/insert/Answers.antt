@@ -1,4 +1,4 @@
-use Rattle.std.proofs.Common.{◌≡◌, ◌∙◌, ap, insert}
+use Rattle.std.proofs.Common.{◌∙◌, ap, insert}
 use Rattle.gl_kernel.specs.Values.{Stored, unnamed}
 use Rattle.gl_kernel.proofs.Naming.{unnamed-insert}
 use Rattle.gl_kernel.proofs.list.ValueListEditable.insert.Goals as goal

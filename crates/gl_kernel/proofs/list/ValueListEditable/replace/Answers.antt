@@ -1,4 +1,4 @@
-use Rattle.std.proofs.Common.{◌≡◌, ◌∙◌, ap, insert}
+use Rattle.std.proofs.Common.{◌∙◌, ap, insert}
 use Rattle.gl_kernel.proofs.Playing.{set-is}
 use Rattle.gl_kernel.proofs.list.ValueListEditable.replace.Goals as goal
 
