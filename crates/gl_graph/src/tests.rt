@@ -1,5 +1,11 @@
-ghost use Rattle.std.specs.Prelude.{IsTrue};
+ghost use Rattle.std.specs.Prelude.{◌≡◌, ◌≤◌, IsTrue, IfOk, OnOk};
+ghost use Rattle.spec_states.specs.State.{opening};
+ghost use Rattle.gl_graph.specs.Graph.{state_of};
 ghost use Rattle.gl_graph.specs.Opening.{IsKindBuilt, AreKindsBuilt};
+
+mod commands;
+mod told;
+mod waves;
 
 use crate::{BuildFault, Graph};
 use gl_lang::{Bounds, Func, Matcher, Path, Test};
@@ -67,43 +73,52 @@ fn range(
     );
 }
 
-// The function that adds ten.
-fn plus_ten(rt: &(impl Abort + AllocGlobal)) -> Func {
+// The function that adds so much.
+fn plus(rt: &(impl Abort + AllocGlobal), n: i64) -> Func {
     let alloc = rt.alloc();
     match (
         Box::new(alloc, Func::at(Path::new(alloc))),
-        Box::new(alloc, Func::num(10)),
+        Box::new(alloc, Func::num(n)),
     ) {
-        (Ok(itself), Ok(ten)) => Func::add(itself, ten),
+        (Ok(itself), Ok(more)) => Func::add(itself, more),
         _ => panic!(rt; "out of memory"),
     }
+}
+
+// The numbers above one.
+fn above_one(rt: &(impl Abort + AllocGlobal), lines: &mut Lines, name: &[u8], input: &[u8]) {
+    add(
+        rt,
+        lines,
+        Line::Filter {
+            name: named(rt, name),
+            input: named(rt, input),
+            matcher: Matcher::is(Path::new(rt.alloc()), Test::Gt, Value::num(1)),
+        },
+    );
+}
+
+// Ten more than each number.
+fn ten_more(rt: &(impl Abort + AllocGlobal), lines: &mut Lines, name: &[u8], input: &[u8]) {
+    add(
+        rt,
+        lines,
+        Line::Function {
+            name: named(rt, name),
+            input: named(rt, input),
+            func: plus(rt, 10),
+        },
+    );
 }
 
 // Those above one of the last two of 1, 2 and 3, each declared before what it depends on; behind them ten more than
 // each of these, and the first of them.
 fn five(rt: &(impl Abort + AllocGlobal)) -> Lines {
-    let alloc = rt.alloc();
-    let mut lines = Items::new(alloc);
-    add(
-        rt,
-        &mut lines,
-        Line::Filter {
-            name: named(rt, b"large"),
-            input: named(rt, b"last"),
-            matcher: Matcher::is(Path::new(alloc), Test::Gt, Value::num(1)),
-        },
-    );
+    let mut lines = Items::new(rt.alloc());
+    above_one(rt, &mut lines, b"large", b"last");
     range(rt, &mut lines, b"last", b"all", Bounds::Tail(2, 0));
     source(rt, &mut lines, b"all", &[1, 2, 3]);
-    add(
-        rt,
-        &mut lines,
-        Line::Function {
-            name: named(rt, b"more"),
-            input: named(rt, b"large"),
-            func: plus_ten(rt),
-        },
-    );
+    ten_more(rt, &mut lines, b"more", b"large");
     range(rt, &mut lines, b"first", b"more", Bounds::Head(0, 1));
     lines
 }
@@ -131,14 +146,18 @@ fn are_built(lists: &[ListDecl]) -> bool
     true
 }
 
-fn built(rt: &(impl Abort + AllocGlobal), lines: Lines) -> Result<Graph, BuildFault> {
+fn planned(rt: &(impl Abort + AllocGlobal), lines: Lines) -> Plan {
     match Plan::from_lines(rt.alloc(), lines) {
-        Ok(plan) => {
-            assert!(rt; are_built(plan.lists()) && plan.limit() <= 2_147_483_647);
-            Graph::build(rt.alloc(), &plan)
-        }
+        Ok(plan) => plan,
         Err(_) => panic!(rt; "no plan"),
     }
+}
+
+fn built(rt: &(impl Abort + AllocGlobal), plan: &Plan) -> Result<Graph, BuildFault>
+    ensures { IfOk result (λ graph. state_of graph ≡ opening plan.now) }
+{
+    assert!(rt; are_built(plan.lists()) && plan.limit() <= 2_147_483_647);
+    Graph::build(rt.alloc(), plan)
 }
 
 fn shows(graph: &Graph, list: u32, rows: &[i64]) -> bool {
@@ -157,7 +176,7 @@ fn shows(graph: &Graph, list: u32, rows: &[i64]) -> bool {
 
 #[test]
 fn lists_open_behind_what_they_depend_on(rt: HostRuntime) {
-    match built(&rt, five(&rt)) {
+    match built(&rt, &planned(&rt, five(&rt))) {
         Ok(graph) => {
             assert!(rt; shows(&graph, 0, &[2, 3]));
             assert!(rt; shows(&graph, 1, &[2, 3]));
@@ -176,7 +195,7 @@ fn a_list_longer_than_the_limit(rt: HostRuntime) {
     add(&rt, &mut lines, Line::Limit { limit: 1 });
     source(&rt, &mut lines, b"one", &[1]);
     source(&rt, &mut lines, b"two", &[1, 2]);
-    match built(&rt, lines) {
+    match built(&rt, &planned(&rt, lines)) {
         Err(BuildFault::TooLong { list, len }) => assert_eq!(rt; (list, len), (1, 2)),
         _ => panic!(rt; "no fault"),
     }
