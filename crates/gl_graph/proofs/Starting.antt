@@ -83,7 +83,7 @@ pub no_cycle : (lists : List ListDecl) (edges : List (ℕ × ℕ)) → IsOrdered
     → ¬ HasCycle edges
 no_cycle lists edges h is = subst (λ es. ¬ HasCycle es) (opened_edges lists ∙ sym is) h.acyclic
 
--- the order of a whole plan's lists
+-- the order of a plan's lists
 pub whole_ordered : (p : Plan) → IsWhole p → IsOrdered (opened_lists p.lists)
 whole_ordered p h = record {
   within = subst (λ n. AreWithin n (edges_of (opened_lists p.lists))) (sym (long_opened p.lists)) (subst (AreWithin (length p.lists)) (sym (opened_edges p.lists)) h.lists_within);

@@ -1,4 +1,4 @@
-//! Writer of whole plans: `write_plan` adds the one text of a plan, as `spec_canonical` defines it.
+//! Writer of plans: `write_plan` adds the one text of a plan, as `spec_canonical` defines it.
 //! Lists and listeners are named by their numbers in a plan, and by their names in its text.
 #![tactic(auto)]
 

@@ -1,4 +1,4 @@
-//! A world: the lists of a whole plan, kept up to date as its actors take their sections one after another.
+//! A world: the lists of a plan, kept up to date as its actors take their sections one after another.
 //! Contracts see a world as its plan and the order of the entries so far, which fix everything else: the replies, what
 //! listeners were told, what lists show and what is left.
 #![tactic(auto)]
