@@ -1,74 +1,17 @@
-ghost use Rattle.std.specs.Prelude.{◌≡◌, ◌+◌, ◌<◌, ◌≤◌, ◌++◌, ◌∷◌, [], OnOk, IfOk};
-ghost use Rattle.spec_lists.specs.Piece.{old_len, new_len, normal};
-ghost use Rattle.spec_lists.specs.Cells.{pieces_in};
+ghost use Rattle.std.specs.Prelude.{◌≡◌, ◌<◌};
 ghost use Rattle.spec_lists.specs.Leads.{IsDelta};
 ghost use Rattle.spec_lang.specs.Kind.{Says};
-ghost use Rattle.gl_delta.specs.Cells.{cell_of};
 
 use crate::Filter;
-use gl_delta::{Cell, CellRef, Delta, Find};
+use gl_delta::Find;
 use gl_lang::{EditKind, Matcher, Path, Test};
+use gl_testing::{Change, Row, Told, change_of, is_number, numbers, tells};
 use gl_value::{Steps, Value, Values};
-use std::alloc::{AllocError, Global};
+use std::alloc::Global;
 use std::marker::Brand;
 use std::process::Abort;
 use std::sync::ledger::{Blank, Ledger};
 use std::test::Fail;
-
-// What becomes of an element, its values numbers.
-#[derive(Clone, Copy)]
-enum Row {
-    Keep(i64),
-    Update(i64, i64),
-    Delete(i64),
-    Insert(i64),
-}
-
-// A cell that is told.
-#[derive(Clone, Copy)]
-enum Told {
-    Keep(usize),
-    Update(i64, i64),
-    Delete(i64),
-    Insert(i64),
-}
-
-// A delta and its lists.
-#[derive(Drop)]
-struct Case {
-    delta: Delta,
-    olds: Values,
-    news: Values,
-}
-
-fn is_number(v: &Value, n: i64) -> bool {
-    v.same(&Value::num(n))
-}
-
-fn is_told(cell: CellRef<'_>, told: Told) -> bool {
-    match (cell, told) {
-        (CellRef::Keep(n), Told::Keep(m)) => n == m,
-        (CellRef::Update(v, w), Told::Update(a, b)) => is_number(v, a) && is_number(w, b),
-        (CellRef::Delete(v), Told::Delete(a)) => is_number(v, a),
-        (CellRef::Insert(w), Told::Insert(b)) => is_number(w, b),
-        _ => false,
-    }
-}
-
-fn tells(delta: &Delta, told: &[Told]) -> bool {
-    let mut cells = delta.cells();
-    for one in told {
-        match cells.next() {
-            Some(cell) => {
-                if !is_told(cell, *one) {
-                    return false;
-                }
-            }
-            None => return false,
-        }
-    }
-    cells.next().is_none()
-}
 
 // Whether the filter of a list shows this number at a place.
 fn shows_at(filter: &Filter, list: &Values, place: usize, n: i64) -> bool {
@@ -81,105 +24,13 @@ fn shows_at(filter: &Filter, list: &Values, place: usize, n: i64) -> bool {
     }
 }
 
-fn shows(filter: &Filter, list: &Values, numbers: &[i64]) -> bool {
-    for (place, n) in numbers.iter().enumerate() {
+fn shows(filter: &Filter, list: &Values, shown: &[i64]) -> bool {
+    for (place, n) in shown.iter().enumerate() {
         if !shows_at(filter, list, place, *n) {
             return false;
         }
     }
-    filter.len() == numbers.len() && filter.find(numbers.len()).is_none()
-}
-
-// A cell of one element pushed, where the lists stay short.
-fn push(rt: &impl Abort, delta: &mut Delta, cell: Cell) -> Result<(), AllocError>
-    requires olds { old_len (pieces_in (cell_of cell)) ≤ 1 }
-    requires news { new_len (pieces_in (cell_of cell)) ≤ 1 }
-    ensures { OnOk result (delta.new.pieces ≡ normal (delta.old.pieces ++ pieces_in (cell_of cell))) }
-{
-    assert!(rt; delta.old_len() < 100 && delta.new_len() < 100);
-    match delta.push(cell) {
-        Ok(()) => Ok(()),
-        Err((_cell, failed)) => Err(failed),
-    }
-}
-
-fn add(list: &mut Values, v: &Value) -> Result<(), AllocError>
-    ensures { OnOk result (list.new ≡ list.old ++ v.now ∷ []) }
-{
-    match list.push(v.copy()?) {
-        Ok(()) => Ok(()),
-        Err((_value, failed)) => Err(failed),
-    }
-}
-
-fn keep(rt: &impl Abort, case: &mut Case, v: &Value) -> Result<(), AllocError>
-    requires { IsDelta case.old.delta.pieces case.old.olds case.old.news }
-    ensures { OnOk result (IsDelta case.new.delta.pieces case.new.olds case.new.news) }
-{
-    push(rt, &mut case.delta, Cell::Keep(1))?;
-    add(&mut case.olds, v)?;
-    add(&mut case.news, v)?;
-    Ok(())
-}
-
-fn update(rt: &impl Abort, case: &mut Case, v: &Value, w: &Value) -> Result<(), AllocError>
-    requires { IsDelta case.old.delta.pieces case.old.olds case.old.news }
-    ensures { OnOk result (IsDelta case.new.delta.pieces case.new.olds case.new.news) }
-{
-    let old = v.copy()?;
-    let new = w.copy()?;
-    push(rt, &mut case.delta, Cell::Update(old, new))?;
-    add(&mut case.olds, v)?;
-    add(&mut case.news, w)?;
-    Ok(())
-}
-
-fn delete(rt: &impl Abort, case: &mut Case, v: &Value) -> Result<(), AllocError>
-    requires { IsDelta case.old.delta.pieces case.old.olds case.old.news }
-    ensures { OnOk result (IsDelta case.new.delta.pieces case.new.olds case.new.news) }
-{
-    let old = v.copy()?;
-    push(rt, &mut case.delta, Cell::Delete(old))?;
-    add(&mut case.olds, v)?;
-    Ok(())
-}
-
-fn insert(rt: &impl Abort, case: &mut Case, w: &Value) -> Result<(), AllocError>
-    requires { IsDelta case.old.delta.pieces case.old.olds case.old.news }
-    ensures { OnOk result (IsDelta case.new.delta.pieces case.new.olds case.new.news) }
-{
-    let new = w.copy()?;
-    push(rt, &mut case.delta, Cell::Insert(new))?;
-    add(&mut case.news, w)?;
-    Ok(())
-}
-
-// One element more on the delta and on its lists.
-fn add_row(rt: &impl Abort, case: &mut Case, row: Row) -> Result<(), AllocError>
-    requires { IsDelta case.old.delta.pieces case.old.olds case.old.news }
-    ensures { OnOk result (IsDelta case.new.delta.pieces case.new.olds case.new.news) }
-{
-    match row {
-        Row::Keep(n) => keep(rt, case, &Value::num(n)),
-        Row::Update(a, b) => update(rt, case, &Value::num(a), &Value::num(b)),
-        Row::Delete(a) => delete(rt, case, &Value::num(a)),
-        Row::Insert(b) => insert(rt, case, &Value::num(b)),
-    }
-}
-
-#[tactic(auto, using(crate::proofs::Cases::nothing_yet))]
-fn built(rt: &impl Abort, alloc: Global, rows: &[Row]) -> Result<Case, AllocError>
-    ensures { IfOk result (λ case. IsDelta case.delta.pieces case.olds case.news) }
-{
-    let mut case = Case {
-        delta: Delta::start(alloc),
-        olds: Values::new(alloc),
-        news: Values::new(alloc),
-    };
-    'rows: for row in rows {
-        add_row(rt, &mut case, *row)?;
-    }
-    Ok(case)
+    filter.len() == shown.len() && filter.find(shown.len()).is_none()
 }
 
 fn above_three(alloc: Global) -> Matcher {
@@ -194,40 +45,40 @@ fn two(alloc: Global) -> Matcher {
 fn follows<L: Ledger>(
     rt: &impl Abort,
     alloc: Global,
-    case: &Case,
+    change: &Change,
     before: &[i64],
     told: &[Told],
     after: &[i64],
     blank: Blank,
 ) -> Result<(), Fail>
-    requires delta { IsDelta case.now.delta.pieces case.now.olds case.now.news }
+    requires delta { IsDelta change.now.delta.pieces change.now.before change.now.after }
     requires name { blank.name ≡ L.name }
     requires parts { blank.parts ≡ L.parts }
     requires some { 0 < blank.parts }
 {
     let mut steps: Steps<L> = Steps::new(blank);
-    assert!(rt; case.olds.len() < 100);
-    let mut filter = Filter::make(alloc, above_three(alloc), &case.olds, &mut steps)?;
-    assert!(rt; shows(&filter, &case.olds, before));
-    let (out, undo) = filter.advance(&case.news, &case.delta, &mut steps)?;
+    assert!(rt; change.before.len() < 100);
+    let mut filter = Filter::make(alloc, above_three(alloc), &change.before, &mut steps)?;
+    assert!(rt; shows(&filter, &change.before, before));
+    let (out, undo) = filter.advance(&change.after, &change.delta, &mut steps)?;
     assert!(rt; tells(&out, told));
-    assert!(rt; shows(&filter, &case.news, after));
+    assert!(rt; shows(&filter, &change.after, after));
     filter.retreat(undo);
-    assert!(rt; shows(&filter, &case.olds, before));
+    assert!(rt; shows(&filter, &change.before, before));
     Ok(())
 }
 
 fn followed(
     rt: &impl Abort,
     alloc: Global,
-    case: &Case,
+    change: &Change,
     before: &[i64],
     told: &[Told],
     after: &[i64],
 ) -> Result<(), Fail>
-    requires { IsDelta case.now.delta.pieces case.now.olds case.now.news }
+    requires { IsDelta change.now.delta.pieces change.now.before change.now.after }
 {
-    follows::<Brand>(rt, alloc, case, before, told, after, Blank::new(1))
+    follows::<Brand>(rt, alloc, change, before, told, after, Blank::new(1))
 }
 
 #[test]
@@ -302,8 +153,8 @@ fn deltas_through_a_filter(rt: HostRuntime) -> Result<(), Fail> {
             &[],
         ),
     ] {
-        let case = built(&rt, rt.alloc(), rows)?;
-        followed(&rt, rt.alloc(), &case, before, told, after)?;
+        let change = change_of(rt.alloc(), rows)?;
+        followed(&rt, rt.alloc(), &change, before, told, after)?;
     }
     Ok(())
 }
@@ -325,10 +176,7 @@ fn changes<L: Ledger>(
     requires some { 0 < blank.parts }
 {
     let mut steps: Steps<L> = Steps::new(blank);
-    let mut list = Values::new(alloc);
-    for n in [5, 2, 9, 2] {
-        add(&mut list, &Value::num(n))?;
-    }
+    let list = numbers(alloc, &[5, 2, 9, 2])?;
     assert!(rt; list.len() < 100);
     let mut filter = Filter::make(alloc, old, &list, &mut steps)?;
     let before = filter.len();

@@ -1,3 +1,2 @@
 pub mod Telling
 pub mod Changing
-pub mod Leading

@@ -12,6 +12,7 @@ use gl_lang::{Bounds, Func, Matcher, Path, Test};
 use gl_lines::{Line, Lines, ListDecl, ListKind, Named, NumberedLine};
 use gl_names::Name;
 use gl_plan::Plan;
+use gl_testing::is_number;
 use gl_value::{Items, Text, Value};
 use std::alloc::Global;
 use std::process::Abort;
@@ -164,7 +165,7 @@ fn shows(graph: &Graph, list: u32, rows: &[i64]) -> bool {
     for place in 0..rows.len() {
         match graph.get(list, place) {
             Some(value) => {
-                if !value.same(&Value::num(rows[place])) {
+                if !is_number(value, rows[place]) {
                     return false;
                 }
             }

@@ -1,4 +1,3 @@
 pub mod Telling
 pub mod Keeping
 pub mod Slicing
-pub mod Leading

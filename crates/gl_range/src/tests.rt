@@ -1,152 +1,15 @@
-ghost use Rattle.std.specs.Prelude.{◌≡◌, ◌<◌, ◌≤◌, ◌++◌, ◌∷◌, [], length, IfOk, OnOk};
-ghost use Rattle.spec_value.specs.Tree.{num};
-ghost use Rattle.spec_lists.specs.Piece.{old_len, new_len, normal};
-ghost use Rattle.spec_lists.specs.Cells.{pieces_in};
+ghost use Rattle.std.specs.Prelude.{◌≡◌, ◌<◌, ◌≤◌, length};
 ghost use Rattle.spec_lists.specs.Leads.{IsDelta};
-ghost use Rattle.gl_delta.specs.Cells.{cell_of};
 
 use crate::RangeKernel;
-use gl_delta::{Cell, CellRef, Delta, Find};
+use gl_delta::Find;
 use gl_lang::Bounds;
-use gl_value::{Shelf, Steps, Value, Values};
+use gl_testing::{Change, Row, Told, change_of, is_number, numbers, tells};
+use gl_value::{Shelf, Steps, Values};
 use std::alloc::{AllocError, Global};
 use std::marker::Brand;
-use std::process::Abort;
 use std::sync::ledger::{Blank, Ledger};
 use std::test::Fail;
-
-// What becomes of an element, its values numbers.
-#[derive(Clone, Copy)]
-enum Row {
-    Keep(i64),
-    Update(i64, i64),
-    Delete(i64),
-    Insert(i64),
-}
-
-// A cell that is told.
-#[derive(Clone, Copy)]
-enum Told {
-    Keep(usize),
-    Update(i64, i64),
-    Delete(i64),
-    Insert(i64),
-}
-
-// A change of a list.
-#[derive(Drop)]
-struct Change {
-    before: Values,
-    after: Values,
-    delta: Delta,
-}
-
-fn is_number(v: &Value, n: i64) -> bool {
-    v.same(&Value::num(n))
-}
-
-fn is_told(cell: CellRef<'_>, told: Told) -> bool {
-    match (cell, told) {
-        (CellRef::Keep(n), Told::Keep(m)) => n == m,
-        (CellRef::Update(v, w), Told::Update(a, b)) => is_number(v, a) && is_number(w, b),
-        (CellRef::Delete(v), Told::Delete(a)) => is_number(v, a),
-        (CellRef::Insert(w), Told::Insert(b)) => is_number(w, b),
-        _ => false,
-    }
-}
-
-fn tells(delta: &Delta, told: &[Told]) -> bool {
-    let mut cells = delta.cells();
-    for one in told {
-        match cells.next() {
-            Some(cell) => {
-                if !is_told(cell, *one) {
-                    return false;
-                }
-            }
-            None => return false,
-        }
-    }
-    cells.next().is_none()
-}
-
-// A cell of at most one element, where the lists stay short.
-fn push(rt: &impl Abort, delta: &mut Delta, cell: Cell) -> Result<(), AllocError>
-    requires olds { old_len (pieces_in (cell_of cell)) ≤ 1 }
-    requires news { new_len (pieces_in (cell_of cell)) ≤ 1 }
-    ensures { OnOk result (delta.new.pieces ≡ normal (delta.old.pieces ++ pieces_in (cell_of cell))) }
-{
-    assert!(rt; delta.old_len() < 100 && delta.new_len() < 100);
-    match delta.push(cell) {
-        Ok(()) => Ok(()),
-        Err((_cell, failed)) => Err(failed),
-    }
-}
-
-fn add(list: &mut Values, n: i64) -> Result<(), AllocError>
-    ensures { OnOk result (list.new ≡ list.old ++ num n ∷ []) }
-{
-    match list.push(Value::num(n)) {
-        Ok(()) => Ok(()),
-        Err((_value, failed)) => Err(failed),
-    }
-}
-
-fn add_row(rt: &impl Abort, change: &mut Change, row: Row) -> Result<(), AllocError>
-    requires { IsDelta change.old.delta.pieces change.old.before change.old.after }
-    ensures { OnOk result (IsDelta change.new.delta.pieces change.new.before change.new.after) }
-{
-    match row {
-        Row::Keep(a) => {
-            push(rt, &mut change.delta, Cell::Keep(1))?;
-            add(&mut change.before, a)?;
-            add(&mut change.after, a)?;
-            Ok(())
-        }
-        Row::Update(a, b) => {
-            push(
-                rt,
-                &mut change.delta,
-                Cell::Update(Value::num(a), Value::num(b)),
-            )?;
-            add(&mut change.before, a)?;
-            add(&mut change.after, b)?;
-            Ok(())
-        }
-        Row::Delete(a) => {
-            push(rt, &mut change.delta, Cell::Delete(Value::num(a)))?;
-            add(&mut change.before, a)?;
-            Ok(())
-        }
-        Row::Insert(b) => {
-            push(rt, &mut change.delta, Cell::Insert(Value::num(b)))?;
-            add(&mut change.after, b)?;
-            Ok(())
-        }
-    }
-}
-
-fn change_of(rt: &impl Abort, alloc: Global, rows: &[Row]) -> Result<Change, AllocError>
-    ensures { IfOk result (λ change. IsDelta change.delta.pieces change.before change.after) }
-{
-    let mut change = Change {
-        before: Values::new(alloc),
-        after: Values::new(alloc),
-        delta: Delta::start(alloc),
-    };
-    'rows: for row in rows {
-        add_row(rt, &mut change, *row)?;
-    }
-    Ok(change)
-}
-
-fn numbers(alloc: Global, shown: &[i64]) -> Result<Values, AllocError> {
-    let mut list = Values::new(alloc);
-    for n in shown {
-        add(&mut list, *n)?;
-    }
-    Ok(list)
-}
 
 fn finds(range: &RangeKernel, input: &Values, place: usize, n: i64) -> bool {
     match range.find(place) {
@@ -275,7 +138,7 @@ fn changes_of_the_list(rt: HostRuntime) -> Result<(), Fail> {
         ),
         (Bounds::Head(0, 5), &[], &[], &[], &[]),
     ] {
-        let change = change_of(&rt, rt.alloc(), rows)?;
+        let change = change_of(rt.alloc(), rows)?;
         let right = follows::<Brand>(
             rt.alloc(),
             bounds,

@@ -3,8 +3,9 @@ ghost use Rattle.spec_lists.specs.Piece.{new_len};
 ghost use Rattle.spec_lists.specs.Leads.{LeadsFrom};
 
 use crate::{Edit, EditFault, OpenFault, SourceList};
-use gl_delta::{CellRef, Delta};
-use gl_value::{Shelf, Value, Values};
+use gl_delta::Delta;
+use gl_testing::{Told, is_number, numbers, tells};
+use gl_value::{Shelf, Value};
 use std::alloc::{AllocError, Global};
 use std::process::Abort;
 use std::test::Fail;
@@ -19,50 +20,12 @@ enum Step {
     Clear,
 }
 
-// A cell that is told.
-#[derive(Clone, Copy)]
-enum Told {
-    Keep(usize),
-    Update(i64, i64),
-    Delete(i64),
-    Insert(i64),
-}
-
 // What an edit answers: what it tells and the numbers that it leaves, or why it is refused.
 #[derive(Clone, Copy)]
 enum Answer {
     Done(&'static [Told], &'static [i64]),
     OutOfRange(u64, u64),
     TooLong(u128),
-}
-
-fn is_number(v: &Value, n: i64) -> bool {
-    v.same(&Value::num(n))
-}
-
-fn is_told(cell: CellRef<'_>, told: Told) -> bool {
-    match (cell, told) {
-        (CellRef::Keep(n), Told::Keep(m)) => n == m,
-        (CellRef::Update(v, w), Told::Update(a, b)) => is_number(v, a) && is_number(w, b),
-        (CellRef::Delete(v), Told::Delete(a)) => is_number(v, a),
-        (CellRef::Insert(w), Told::Insert(b)) => is_number(w, b),
-        _ => false,
-    }
-}
-
-fn tells(delta: &Delta, told: &[Told]) -> bool {
-    let mut cells = delta.cells();
-    for one in told {
-        match cells.next() {
-            Some(cell) => {
-                if !is_told(cell, *one) {
-                    return false;
-                }
-            }
-            None => return false,
-        }
-    }
-    cells.next().is_none()
 }
 
 fn shows_at(source: &SourceList, place: usize, n: i64) -> bool {
@@ -72,29 +35,19 @@ fn shows_at(source: &SourceList, place: usize, n: i64) -> bool {
     }
 }
 
-fn shows(source: &SourceList, numbers: &[i64]) -> bool {
-    for (place, n) in numbers.iter().enumerate() {
+fn shows(source: &SourceList, shown: &[i64]) -> bool {
+    for (place, n) in shown.iter().enumerate() {
         if !shows_at(source, place, *n) {
             return false;
         }
     }
-    source.len() == numbers.len() && source.get(numbers.len()).is_none()
-}
-
-fn values(alloc: Global, numbers: &[i64]) -> Result<Values, AllocError> {
-    let mut list = Values::new(alloc);
-    for n in numbers {
-        if list.push(Value::num(*n)).is_err() {
-            return Err(AllocError);
-        }
-    }
-    Ok(list)
+    source.len() == shown.len() && source.get(shown.len()).is_none()
 }
 
 fn edit(alloc: Global, step: Step) -> Result<Edit, AllocError> {
     match step {
-        Step::Append(numbers) => Ok(Edit::Append {
-            values: values(alloc, numbers)?,
+        Step::Append(added) => Ok(Edit::Append {
+            values: numbers(alloc, added)?,
         }),
         Step::Insert(index, n) => Ok(Edit::Insert {
             index,
@@ -114,13 +67,13 @@ fn makes(
     rt: &impl Abort,
     source: &mut SourceList,
     d: &Delta,
-    numbers: &[i64],
+    shown: &[i64],
 ) -> Result<(), AllocError>
     requires leads { LeadsFrom d.now.pieces source.old.values }
     requires within { new_len d.now.pieces ≤ source.old.limit }
 {
     let undo = source.apply(d)?;
-    assert!(rt; shows(source, numbers));
+    assert!(rt; shows(source, shown));
     source.retreat(undo);
     assert!(rt; shows(source, &[5, 9]));
     Ok(())
@@ -135,14 +88,14 @@ fn answers(
 ) -> Result<(), AllocError> {
     match source.edit(e) {
         Ok((d, undo)) => {
-            let Answer::Done(told, numbers) = answer else {
+            let Answer::Done(told, shown) = answer else {
                 panic!(rt; "it wasn't refused");
             };
             let _within = source.limit();
-            assert!(rt; tells(&d, told) && shows(source, numbers));
+            assert!(rt; tells(&d, told) && shows(source, shown));
             source.retreat(undo);
             assert!(rt; shows(source, &[5, 9]));
-            makes(rt, source, &d, numbers)
+            makes(rt, source, &d, shown)
         }
         Err(fault) => {
             assert!(rt; is_refusal(fault, answer) && shows(source, &[5, 9]));
@@ -161,7 +114,7 @@ fn is_refusal(fault: EditFault, answer: Answer) -> bool {
 
 #[test]
 fn edits(rt: HostRuntime) -> Result<(), Fail> {
-    let rows = values(rt.alloc(), &[5, 9])?;
+    let rows = numbers(rt.alloc(), &[5, 9])?;
     for (limit, step, answer) in [
         (
             4u64,
@@ -216,7 +169,7 @@ fn edits(rt: HostRuntime) -> Result<(), Fail> {
 
 #[test]
 fn rows_past_the_limit(rt: HostRuntime) -> Result<(), Fail> {
-    let rows = values(rt.alloc(), &[5, 9])?;
+    let rows = numbers(rt.alloc(), &[5, 9])?;
     match SourceList::make(rt.alloc(), &rows, 1) {
         Err(OpenFault::TooLong { len }) => {
             assert_eq!(rt; len, 2);

@@ -7,13 +7,14 @@ ghost use Rattle.gl_graph.specs.Graph.{state_of};
 ghost use Rattle.gl_graph.specs.Commands.{Suits};
 
 use super::commands::{ALL, Ask, command, fits, four};
-use super::told::{Told, tells};
+use super::told::tells;
 use super::{built, shows};
 use crate::{Graph, Refused, Wave};
 use gl_delta::Deltas;
 use gl_lang::Bounds;
 use gl_lines::Command;
 use gl_plan::Plan;
+use gl_testing::Told;
 use gl_value::Steps;
 use std::marker::Brand;
 use std::process::Abort;

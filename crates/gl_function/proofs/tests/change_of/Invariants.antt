@@ -1,5 +1,0 @@
-use Rattle.spec_lists.specs.Leads.{IsDelta}
-use Rattle.gl_function.proofs.tests.change_of.Given as goal
-
-abbrev pub invariant-rows : goal.invariant-rows
-invariant-rows g l = IsDelta l.change.delta.pieces l.change.before l.change.after
