@@ -1,11 +1,12 @@
 //! Changes of lists of numbers, made of what becomes of each element.
 
-ghost use Rattle.std.specs.Prelude.{◌≡◌, ◌≤◌, ◌++◌, ◌∷◌, [], map, IfOk, OnOk};
+ghost use Rattle.std.specs.Prelude.{◌≡◌, ◌≤◌, ◌++◌, ◌∷◌, [], map, flat_map, IfOk, OnOk};
 ghost use Rattle.spec_value.specs.Tree.{num};
 ghost use Rattle.spec_lists.specs.Piece.{old_len, new_len, normal};
 ghost use Rattle.spec_lists.specs.Cells.{pieces_in};
 ghost use Rattle.spec_lists.specs.Leads.{IsDelta};
 ghost use Rattle.gl_delta.specs.Cells.{cell_of};
+ghost use Rattle.gl_testing.specs.Rows.{old_of, new_of};
 
 use gl_delta::{Cell, Delta};
 use gl_value::{Value, Values};
@@ -58,7 +59,9 @@ fn add(list: &mut Values, n: i64) -> Result<(), AllocError>
 
 fn add_row(change: &mut Change, row: Row) -> Result<(), AllocError>
     requires { IsDelta change.old.delta.pieces change.old.before change.old.after }
-    ensures { OnOk result (IsDelta change.new.delta.pieces change.new.before change.new.after) }
+    ensures delta { OnOk result (IsDelta change.new.delta.pieces change.new.before change.new.after) }
+    ensures before { OnOk result (change.new.before ≡ change.old.before ++ old_of row) }
+    ensures after { OnOk result (change.new.after ≡ change.old.after ++ new_of row) }
 {
     match row {
         Row::Keep(a) => {
@@ -89,10 +92,12 @@ fn add_row(change: &mut Change, row: Row) -> Result<(), AllocError>
     }
 }
 
-/// The change that these rows make, from left to right. It is refused where memory is wanting, and where a list would
-/// have more than a hundred elements.
+/// The change that these rows make, from left to right: the lists are theirs, and the delta leads from the one to the
+/// other. It is refused where memory is wanting, and where a list would have more than a hundred elements.
 pub fn change_of(alloc: Global, rows: &[Row]) -> Result<Change, AllocError>
-    ensures { IfOk result (λ change. IsDelta change.delta.pieces change.before change.after) }
+    ensures delta { IfOk result (λ change. IsDelta change.delta.pieces change.before change.after) }
+    ensures before { IfOk result (λ change. change.before ≡ flat_map old_of rows.now) }
+    ensures after { IfOk result (λ change. change.after ≡ flat_map new_of rows.now) }
 {
     let mut change = Change {
         before: Values::new(alloc),
