@@ -1,7 +1,10 @@
 //! Whether a delta tells the cells that it is to tell.
 
-ghost use Rattle.std.specs.Prelude.{◌≡◌, ◌↔◌, IsTrue};
+ghost use Rattle.std.specs.Prelude.{◌≡◌, ◌↔◌, map, IsTrue};
 ghost use Rattle.spec_value.specs.Tree.{num};
+ghost use Rattle.spec_lists.specs.Cells.{cells_of};
+ghost use Rattle.gl_delta.specs.Cells.{cell_ref};
+ghost use Rattle.gl_testing.specs.Told.{cell_told};
 
 use gl_delta::{CellRef, Delta};
 use gl_value::Value;
@@ -26,7 +29,9 @@ pub fn is_number(v: &Value, n: i64) -> bool
     v.same(&Value::num(n))
 }
 
-fn is_told(cell: CellRef<'_>, told: Told) -> bool {
+fn is_told(cell: CellRef<'_>, told: Told) -> bool
+    ensures { IsTrue result → cell_ref cell.entry ≡ cell_told told }
+{
     match (cell, told) {
         (CellRef::Keep(n), Told::Keep(m)) => n == m,
         (CellRef::Update(v, w), Told::Update(a, b)) => is_number(v, a) && is_number(w, b),
@@ -37,9 +42,11 @@ fn is_told(cell: CellRef<'_>, told: Told) -> bool {
 }
 
 /// Whether the cells of the delta are these, in this order.
-pub fn tells(delta: &Delta, told: &[Told]) -> bool {
+pub fn tells(delta: &Delta, told: &[Told]) -> bool
+    ensures { IsTrue result → cells_of delta.now.pieces ≡ map cell_told told.now }
+{
     let mut cells = delta.cells();
-    for one in told {
+    'told: for one in told {
         match cells.next() {
             Some(cell) => {
                 if !is_told(cell, *one) {
