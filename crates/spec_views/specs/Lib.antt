@@ -1,3 +1,4 @@
+pub mod Arrangement
 pub mod Chosen
 pub mod Filter
 pub mod Function
