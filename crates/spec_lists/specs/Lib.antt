@@ -3,6 +3,7 @@ pub mod Sides
 pub mod Pairs
 pub mod Delta
 pub mod Leads
+pub mod Making
 pub mod Cells
 pub mod Changes
 pub mod Laws

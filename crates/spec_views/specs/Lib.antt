@@ -1,7 +1,14 @@
-pub mod Arrangement
+pub mod Source
 pub mod Chosen
 pub mod Filter
-pub mod Function
 pub mod Range
-pub mod Source
+pub mod Function
+pub mod Arrangement
+pub mod Sorted
+pub mod Classes
+pub mod Unique
+pub mod Grouping
+pub mod Collection
+pub mod Composite
+pub mod View
 pub mod Rows
