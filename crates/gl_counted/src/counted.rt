@@ -2,6 +2,7 @@ ghost use Rattle.std.specs.Prelude.{◌≡◌, ◌+◌, ◌-◌, ◌*◌, ◌^�
 ghost use Rattle.std.specs.Borrow.{sem};
 ghost use Rattle.gl_counted.specs.Counted.{handles, spare, AreDistinct};
 
+use crate::descent::Descent;
 use crate::handle::Handle;
 use crate::items::{item_mut, store, take};
 use gl_ranktree::RankTree;
@@ -66,6 +67,21 @@ impl<T> Counted<T> {
             → result ≤ 2 * digits }
     {
         self.tree.height()
+    }
+
+    /// The way down from the root of the tree that keeps the order, with every place left. It has at most as many levels
+    /// as twice the binary digits of the length.
+    pub fn descend(&self) -> Descent<'_>
+        ensures slots { result.slots ≡ handles self.now.entries }
+        ensures first { result.first ≡ 0 }
+        ensures end { result.end ≡ length self.now.entries }
+        ensures shallow { (digits : ℕ)
+            → length self.now.entries < 2 ^ digits
+            → result.levels ≤ 2 * digits }
+    {
+        Descent {
+            tree: self.tree.descend(),
+        }
     }
 
     /// Makes room, so that `n` more inserts need no memory.

@@ -5,7 +5,7 @@ use std::marker::Model;
 /// The name of an item in the list that handed it out, until that item is taken.
 ///
 /// Contracts see it as a number.
-#[derive(Clone, Copy, Debug, PartialEq, Eq, PartialOrd, Ord, Hash)]
+#[derive(Clone, Copy, Debug, Default, PartialEq, Eq, PartialOrd, Ord, Hash)]
 pub struct Handle {
     pub(crate) slot: u32,
 }

@@ -4,11 +4,13 @@
 #![tactic(auto)]
 
 mod counted;
+mod descent;
 mod handle;
 mod items;
 #[cfg(test)]
 mod tests;
 
 pub use counted::Counted;
+pub use descent::Descent;
 pub use handle::Handle;
 pub use std::alloc::AllocError as Memory;

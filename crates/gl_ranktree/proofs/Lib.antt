@@ -8,3 +8,4 @@ pub mod Finds
 pub mod Vacancies
 pub mod Seen
 pub mod Seeking
+pub mod Descents

@@ -5,3 +5,4 @@ pub mod Edits
 pub mod Finds
 pub mod Ranked
 pub mod Sought
+pub mod Descending

@@ -4,6 +4,7 @@
 //! before it are found in logarithmic time, and in which an entry keeps its slot.
 #![tactic(auto)]
 
+mod descent;
 mod edit;
 mod find;
 mod join;
@@ -16,6 +17,7 @@ mod summary;
 mod tests;
 mod tree;
 
+pub use descent::Descent;
 pub use measure::Measure;
 pub use seek::Sought;
 pub use summary::Summary;

@@ -3,6 +3,7 @@ ghost use Rattle.gl_ranktree.specs.Ranked.{slots_of};
 ghost use Rattle.gl_ranktree.specs.Sought.{IsSought};
 ghost use Rattle.gl_ranktree.specs.Tree.{list_sum, with_own};
 
+use crate::descent::Descent;
 use crate::find::{places_before, slot_at};
 use crate::measure::Measure;
 use crate::node::{ABSENT, Node, read};
@@ -112,6 +113,24 @@ impl<S: Summary> RankTree<S> {
         ensures { IsSought S.sums (M.measured by) self.now.entries k result.place result.before result.own }
     {
         seek(self.nodes.as_slice(), self.root, by, k)
+    }
+
+    /// The way down from the root, with every place left. It has at most as many levels as twice the binary digits of
+    /// the length.
+    pub fn descend(&self) -> Descent<'_, S>
+        ensures slots { result.slots ≡ slots_of self.now.entries }
+        ensures first { result.first ≡ 0 }
+        ensures end { result.end ≡ length self.now.entries }
+        ensures shallow { (digits : ℕ)
+            → length self.now.entries < 2 ^ digits
+            → result.levels ≤ 2 * digits }
+    {
+        Descent {
+            nodes: self.nodes.as_slice(),
+            whole: self.root,
+            top: self.root,
+            first: 0,
+        }
     }
 
     /// Makes room for `additional` more entries, so that as many inserts need no memory.
