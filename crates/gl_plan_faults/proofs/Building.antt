@@ -132,7 +132,7 @@ pub listed_none : (names : List (List ℕ)) (lists : List Listed) (o : Option He
 listed_none names lists o e = subst (λ p. Lists names lists p lists) e refl
 
 pub listed_one : (names : List (List ℕ)) (lists : List Listed) (o : Option Head) (h : Head) (list : Listed) → Some h ≡ o → list.class ≡ h.class
-    → ((b : ℕ) → has list.needs.items b ≡ has (numbers_in names (h.inputs ++ h.may)) b) → Lists names lists o (lists ++ list ∷ [])
+    → ((b : ℕ) → has list.needs b ≡ has (numbers_in names (h.inputs ++ h.may)) b) → Lists names lists o (lists ++ list ∷ [])
 listed_one names lists o h list e class needs = subst (λ p. Lists names lists p (lists ++ list ∷ [])) e (list, refl, class, needs)
 
 with_one : (lines : List NumberedLine) (hs : List Head) (lists : List Listed) (o : Option Head) (more : List Listed)

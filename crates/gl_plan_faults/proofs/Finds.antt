@@ -19,7 +19,7 @@ module _ (lines : List NumberedLine) where
   class_at (h ∷ hs) (s ∷ ss) z zero = ap Some z.0.class_is
   class_at (h ∷ hs) (s ∷ ss) z (suc a) = class_at hs ss z.1 a
 
-  needs_at : (hs : List Head) (ls : List Listed) → AllZip (StandsFor lines) hs ls → (a b : ℕ) → unwrap_or (option_map (λ l. has l.needs.items b) (slice_get ls a)) false ≡ has (unwrap_or (option_map (needed_by lines) (slice_get hs a)) []) b
+  needs_at : (hs : List Head) (ls : List Listed) → AllZip (StandsFor lines) hs ls → (a b : ℕ) → unwrap_or (option_map (λ l. has l.needs b) (slice_get ls a)) false ≡ has (unwrap_or (option_map (needed_by lines) (slice_get hs a)) []) b
   needs_at [] [] z a b = refl
   needs_at [] (s ∷ ss) z a b = absurd z
   needs_at (h ∷ hs) [] z a b = absurd z
@@ -34,7 +34,7 @@ module _ (lines : List NumberedLine) where
   pub class_none : (name : List ℕ) → None ≡ number_of (list_names lines) name → None ≡ class_of lines name
   class_none name e = ap (λ o. option_map (λ (h : Head). h.class) (option_and_then (slice_get (heads lines)) o)) e
 
-  pub depends_at : (ls : List Listed) (a b : ℕ) → AreListed lines ls → unwrap_or (option_map (λ l. has l.needs.items b) (slice_get ls a)) false ≡ depends_on lines a b
+  pub depends_at : (ls : List Listed) (a b : ℕ) → AreListed lines ls → unwrap_or (option_map (λ l. has l.needs b) (slice_get ls a)) false ≡ depends_on lines a b
   depends_at ls a b z = needs_at (heads lines) ls z a b
 
 -- five faults, one behind the other

@@ -1,5 +1,6 @@
 pub mod Numbering
 pub mod Building
+pub mod Marking
 pub mod Reaching
 pub mod Finds
 pub mod Early

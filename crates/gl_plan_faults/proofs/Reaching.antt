@@ -8,7 +8,8 @@ use Rattle.gl_lines.specs.declared.line.NumberedLine.{NumberedLine}
 use Rattle.spec_plans.specs.Lines.{Head}
 use Rattle.spec_plans.specs.Names.{heads, is_pumped, is_proxy, needed_by, leads_to_proxy, is_over_proxy}
 use Rattle.gl_plan_faults.specs.declared.listed.Listed.{Listed}
-use Rattle.gl_plan_faults.specs.Marks.{is_marked, is_reached, AreListed, StandsFor}
+use Rattle.gl_plan_faults.specs.Marked.{is_marked}
+use Rattle.gl_plan_faults.specs.Marks.{is_reached, AreListed, StandsFor}
 
 or_true : (p : Bool) → (p || true) ≡ true
 or_true true = refl
@@ -57,9 +58,9 @@ module _ (lines : List NumberedLine) (marks : List Bool) (leads : ℕ → Bool) 
   reached_at [] (s ∷ ss) z a = absurd z
   reached_at (h ∷ hs) [] z a = absurd z
   reached_at (h ∷ hs) (s ∷ ss) z zero =
-      ap (λ c. is_pumped c || list_any (is_marked marks) s.needs.items) z.0.class_is
+      ap (λ c. is_pumped c || list_any (is_marked marks) s.needs) z.0.class_is
       ∙ ap (λ t. is_pumped h.class || t)
-      (any_alike (is_marked marks) leads marked s.needs.items ∙ any_same leads s.needs.items (needed_by lines h) z.0.needs_are)
+      (any_alike (is_marked marks) leads marked s.needs ∙ any_same leads s.needs (needed_by lines h) z.0.needs_are)
   reached_at (h ∷ hs) (s ∷ ss) z (suc a) = reached_at hs ss z.1 a
 
 same_length : {X Y : Type 0} (R : X → Y → Type 0) (xs : List X) (ys : List Y) → AllZip R xs ys → length ys ≡ length xs

@@ -1,7 +1,8 @@
 -- What the tables of known lines stand for.
 use Rattle.std.specs.Prelude.{◌≡◌, ℕ}
 use Rattle.spec_plans.specs.Names.{list_names, listener_names, is_over_proxy}
-use Rattle.gl_plan_faults.specs.Marks.{AreListed, is_marked}
+use Rattle.gl_plan_faults.specs.Marked.{is_marked}
+use Rattle.gl_plan_faults.specs.Marks.{AreListed}
 use Rattle.gl_plan_faults.specs.declared.known.Known.{Known}
 
 -- the tables are those of the lines

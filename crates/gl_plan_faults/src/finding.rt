@@ -7,7 +7,8 @@ ghost use Rattle.gl_plan_faults.specs.Known.{IsKnown};
 
 use crate::known::Known;
 use crate::listed::Listed;
-use crate::tables::{has, is_marked, listed, names_of_listeners, names_of_lists, over_proxies};
+use crate::marks::is_marked;
+use crate::tables::{listed, names_of_listeners, names_of_lists, over_proxies};
 use gl_lines::NumberedLine;
 use gl_names::Name;
 use spec_plans::ListClass;
@@ -90,10 +91,10 @@ fn class_at(lists: &[Listed], number: u32) -> Option<ListClass>
 
 // Whether the list of a number depends on another.
 fn needs_at(lists: &[Listed], number: u32, other: u32) -> bool
-    ensures { result ≡ unwrap_or (option_map (λ list. has list.needs.items other) (slice_get lists.now number)) false }
+    ensures { result ≡ unwrap_or (option_map (λ list. has list.needs other) (slice_get lists.now number)) false }
 {
     match lists.get(number as usize) {
-        Some(list) => has(list.needs.as_slice(), other),
+        Some(list) => list.needs.has(other),
         None => false,
     }
 }

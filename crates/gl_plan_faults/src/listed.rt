@@ -1,5 +1,6 @@
 //! Lists by number, with what they depend on.
 
+use crate::needs::Needs;
 use spec_plans::ListClass;
 
 /// A list, as far as the names of lines go.
@@ -7,5 +8,5 @@ use spec_plans::ListClass;
 pub(crate) struct Listed {
     pub(crate) class: ListClass,
     /// The numbers of the lists that it depends on, each once.
-    pub(crate) needs: Vec<u32>,
+    pub(crate) needs: Needs,
 }

@@ -6,11 +6,14 @@ ghost use Rattle.spec_order.specs.Turns.{has};
 ghost use Rattle.spec_plans.specs.Lines.{head_of, hearer_of};
 ghost use Rattle.spec_plans.specs.Names.{heads, hearers, list_names, listener_names, is_over_proxy, is_pumped, numbers_in};
 ghost use Rattle.gl_plan_faults.specs.Seen.{head_seen};
-ghost use Rattle.gl_plan_faults.specs.Marks.{is_marked, is_reached, AreListed, Lists};
+ghost use Rattle.gl_plan_faults.specs.Marked.{is_marked};
+ghost use Rattle.gl_plan_faults.specs.Marks.{is_reached, AreListed, Lists};
 
 use crate::line::{ListHead, list_head, listener_head};
 use crate::listed::Listed;
+use crate::marks::is_marked;
 use crate::names::NameTable;
+use crate::needs::Needs;
 use gl_lines::{Line, Named, NumberedLine};
 use spec_plans::ListClass;
 use std::alloc::{AllocError, Global};
@@ -104,48 +107,22 @@ fn with_listed(
 }
 
 // The numbers of the lists that a list depends on.
-fn needs_of(alloc: Global, names: &NameTable, head: &ListHead<'_>) -> Result<Vec<u32>, AllocError>
-    ensures { IfOk result (λ needs. (b : ℕ) → has needs.items b ≡ has (numbers_in names.now ((head_seen head.now).inputs ++ (head_seen head.now).may)) b) }
+fn needs_of(alloc: Global, names: &NameTable, head: &ListHead<'_>) -> Result<Needs, AllocError>
+    ensures { IfOk result (λ needs. (b : ℕ) → has needs b ≡ has (numbers_in names.now ((head_seen head.now).inputs ++ (head_seen head.now).may)) b) }
 {
-    let inputs = with_numbers(Vec::new(alloc), names, head.inputs)?;
+    let inputs = with_numbers(Needs::new(alloc), names, head.inputs)?;
     let needs = with_numbers(inputs, names, head.may)?;
     Ok(needs)
 }
 
 // Numbers with those of these names.
-fn with_numbers(
-    mut needs: Vec<u32>,
-    names: &NameTable,
-    listed: &[Named],
-) -> Result<Vec<u32>, AllocError>
-    ensures { IfOk result (λ more. (b : ℕ) → has more.items b ≡ (has needs.items b || has (numbers_in names.now listed.now) b)) }
+fn with_numbers(mut needs: Needs, names: &NameTable, listed: &[Named]) -> Result<Needs, AllocError>
+    ensures { IfOk result (λ more. (b : ℕ) → has more b ≡ (has needs b || has (numbers_in names.now listed.now) b)) }
 {
     for named in listed {
-        needs = with_number(needs, names.number(&named.name))?;
+        needs = needs.with(names.number(&named.name))?;
     }
     Ok(needs)
-}
-
-// Numbers with this one, once.
-#[tactic(auto, using(crate::proofs::Building::has_already, crate::proofs::Building::has_pushed, crate::proofs::Building::has_no_more))]
-fn with_number(mut needs: Vec<u32>, number: Option<u32>) -> Result<Vec<u32>, AllocError>
-    ensures { IfOk result (λ more. (b : ℕ) → has more.items b ≡ (has needs.items b || has (option_to_list number) b)) }
-{
-    let Some(number) = number else {
-        return Ok(needs);
-    };
-    if has(needs.as_slice(), number) {
-        return Ok(needs);
-    }
-    needs.push(number)?;
-    Ok(needs)
-}
-
-/// Whether a number is among some.
-pub(crate) fn has(numbers: &[u32], number: u32) -> bool
-    ensures { result ≡ has numbers.now number }
-{
-    numbers.iter().any(|other| *other == number)
 }
 
 /// Whether each list is a proxy or depends on one, by number. It goes over the lists as often as there are lists.
@@ -195,14 +172,4 @@ fn is_proxy(class: ListClass) -> bool
     ensures { result ≡ is_pumped class }
 {
     matches!(class, ListClass::Pumped)
-}
-
-/// Whether a number is marked; none is past the end.
-pub(crate) fn is_marked(marks: &[bool], number: usize) -> bool
-    ensures { result ≡ is_marked marks.now number }
-{
-    match marks.get(number) {
-        Some(mark) => *mark,
-        None => false,
-    }
 }

@@ -8,6 +8,6 @@ pub returns : goal.returns
 returns c =
     let names = c.args.names.now in
     let xs = c.args.head.now.inputs.now in
-    has_both names xs c.args.head.now.may.now c.in_ok-inputs.inputs.items c.in_ok-needs.needs.items
-    (λ b. c.in_ok-inputs.ensures b ∙ ap (λ ns. has ns b || has (numbers_in names xs) b) c.new.ensures.items)
+    has_both names xs c.args.head.now.may.now c.in_ok-inputs.inputs c.in_ok-needs.needs
+    (λ b. c.in_ok-inputs.ensures b ∙ ap (λ ns. has ns b || has (numbers_in names xs) b) c.new.ensures)
     c.in_ok-needs.ensures

@@ -1,6 +1,6 @@
 use Rattle.std.proofs.Common.{◌≡◌, ℕ}
 use Rattle.spec_plans.specs.Names.{leads_to_proxy}
-use Rattle.gl_plan_faults.specs.Marks.{is_marked}
+use Rattle.gl_plan_faults.specs.Marked.{is_marked}
 use Rattle.gl_plan_faults.proofs.tables.over_proxies.Given as goal
 
 -- so many steps were made

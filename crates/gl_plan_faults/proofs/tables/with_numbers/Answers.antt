@@ -7,6 +7,6 @@ use Rattle.gl_plan_faults.proofs.tables.with_numbers.Goals as goal
 pub loop-named-preserved : goal.loop-named-preserved
 loop-named-preserved c =
     numbers_more c.args.names.now c.args.listed.now c.loop-named.named-index c.named-item.result
-    c.args.needs.items c.loop-named.needs.items c.in_ok-needs.needs.items c.loop-named-test.true c.named-item.is
+    c.args.needs c.loop-named.needs c.in_ok-needs.needs c.loop-named-test.true c.named-item.is
     c.loop-named.invariant
-    (λ b. c.in_ok-needs.ensures b ∙ ap (λ o. has c.loop-named.needs.items b || has (option_to_list o) b) c.number.ensures.value)
+    (λ b. c.in_ok-needs.ensures b ∙ ap (λ o. has c.loop-named.needs b || has (option_to_list o) b) c.number.ensures.value)

@@ -8,5 +8,5 @@ pub returns : goal.returns
 returns c =
     let k = c.args.self.now in
     c.needs_at.ensures
-    ∙ ap (λ ls. unwrap_or (option_map (λ l. has l.needs.items c.args.other) (slice_get ls c.args.list)) false) c.as_slice.ensures.value
+    ∙ ap (λ ls. unwrap_or (option_map (λ l. has l.needs c.args.other) (slice_get ls c.args.list)) false) c.as_slice.ensures.value
     ∙ depends_at k.lines.now k.lists.items c.args.list c.args.other c.requires.lists_are
