@@ -6,12 +6,13 @@ use Rattle.gl_outside.specs.Sink.{AppendsFront}
 use Rattle.spec_plans.specs.Plan.{Plan}
 use Rattle.spec_plan_texts.specs.Text.{SpellsPlan}
 use Rattle.spec_plan_laws.proofs.Rewritten.{rewritten}
-use Rattle.spec_runs.specs.Built.{is_built}
+use Rattle.spec_plans.specs.Built.{is_built}
 use Rattle.spec_runs.specs.Fits.{Fits}
 use Rattle.spec_reports.specs.Order.{AsksReplay}
-use Rattle.spec_reports.specs.Words.{Request, check, replay, Asks, HaveNoForm}
+use Rattle.spec_reports.specs.Words.{Request, check, replay, run, big, Asks, HaveNoForm}
 use Rattle.spec_reports.specs.Report.{report}
-use Rattle.spec_reports.specs.Answer.{Outcome, usage, too_large, reported, ComesTo, no_form, large, a_fault, a_cycle, a_plan, answer_of, replayed, text_of_outcome, most_bytes}
+use Rattle.spec_reports.proofs.Answer.{reads_plan}
+use Rattle.spec_reports.specs.Answer.{Outcome, usage, too_large, reported, ComesTo, no_form, a_size, large, a_fault, a_cycle, a_plan, answer_of, replayed, text_of_outcome, most_bytes}
 use Rattle.gl_app.specs.declared.status.Status.{Status}
 use Rattle.gl_app.specs.declared.status.Status.TheVariants.{Done, Usage, Plan as PlanStatus, Read, Write, Memory, Order, TooLarge, TooLong}
 use Rattle.gl_app.specs.declared.answer.Answer.{Answer}
@@ -19,7 +20,7 @@ use Rattle.gl_app.specs.declared.answer.Answer.TheVariants as answer
 use Rattle.gl_app.specs.Status.{status_of}
 use Rattle.gl_app.specs.Reading.{Took, IsWhole}
 use Rattle.gl_app.specs.Answer.{status_at, text_at, AnswersBytes}
-use Rattle.gl_app.specs.Call.{Tells, AnswersRequest, AnswersWords, Answered, IsAnswer, Gives, ReportsRun, WritesPlan, MostText, IsAhead, HasRead, IsUsage, IsBehindAll}
+use Rattle.gl_app.specs.Call.{Tells, AnswersRequest, AnswersWords, Answered, IsAnswer, Gives, ReportsRun, WritesPlan, MostText, IsAhead, HasReadFor, HasRead, IsBehindAll}
 use Rattle.gl_app.proofs.PlanLaws.{views_of_spelled, hears_of_spelled}
 use Rattle.gl_app.proofs.RequestLaws.{replayed_cases}
 use Rattle.gl_app.proofs.WordLaws.{one_request_asked}
@@ -31,7 +32,7 @@ with_too_large : (request : Request) (bytes : List ℕ) → most_bytes < length 
     → AnswersBytes request bytes answer.TooLarge
 with_too_large request bytes many = record {
   outcome = too_large;
-  comes = λ words asks. large request asks many;
+  comes = λ words asks. large request asks (reads_plan words request asks) many;
   is = record { status = refl; text = refl };
 }
 
@@ -147,31 +148,33 @@ reported_run held old new bytes order o p told spells is e taken =
     }
 
 run_reported : (words : List (List ℕ)) (held old new : Option (List ℕ)) (bytes : List ℕ) (order : List Actor)
-    (o : Outcome) → Tells held bytes → AsksReplay words order → ComesTo words bytes o → Done ≡ status_of o
+    (o : Outcome) → Tells held bytes → AsksReplay words order → ComesTo words bytes [] o → Done ≡ status_of o
     → Appends old new (text_of_outcome o) → ReportsRun order held old new
 run_reported words held old new bytes order o told asks (no_form none) e taken = cc
-run_reported words held old new bytes order o told asks (large r asked many) e taken = cc
-run_reported words held old new bytes order o told asks (a_fault r f asked few is) e taken = cc
-run_reported words held old new bytes order o told asks (a_cycle r names asked few is) e taken = cc
-run_reported words held old new bytes order o told asks (a_plan r p asked few spells is) e taken =
+run_reported words held old new bytes order o told asks (a_size n asked) e taken = absurd asked.0
+run_reported words held old new bytes order o told asks (large r asked reads many) e taken = cc
+run_reported words held old new bytes order o told asks (a_fault r f asked reads few is) e taken = cc
+run_reported words held old new bytes order o told asks (a_cycle r names asked reads few is) e taken = cc
+run_reported words held old new bytes order o told asks (a_plan r p asked reads few spells is) e taken =
     let same : r ≡ replay order = one_request_asked words r (replay order) asked asks in
-    reported_run held old new bytes order o p told spells (is ∙ ap (λ x. answer_of x p) same) e taken
+    reported_run held old new bytes order o p told spells (is ∙ ap (λ x. answer_of x [] p) same) e taken
 
 plan_written : (words : List (List ℕ)) (held old new : Option (List ℕ)) (bytes : List ℕ) (o : Outcome)
-    → Tells held bytes → Asks words check → ComesTo words bytes o → Done ≡ status_of o
+    → Tells held bytes → Asks words check → ComesTo words bytes [] o → Done ≡ status_of o
     → Appends old new (text_of_outcome o) → WritesPlan held old new
 plan_written words held old new bytes o told asks (no_form none) e taken = cc
-plan_written words held old new bytes o told asks (large r asked many) e taken = cc
-plan_written words held old new bytes o told asks (a_fault r f asked few is) e taken = cc
-plan_written words held old new bytes o told asks (a_cycle r names asked few is) e taken = cc
-plan_written words held old new bytes o told asks (a_plan r p asked few spells is) e taken =
+plan_written words held old new bytes o told asks (a_size n asked) e taken = absurd asked.0
+plan_written words held old new bytes o told asks (large r asked reads many) e taken = cc
+plan_written words held old new bytes o told asks (a_fault r f asked reads few is) e taken = cc
+plan_written words held old new bytes o told asks (a_cycle r names asked reads few is) e taken = cc
+plan_written words held old new bytes o told asks (a_plan r p asked reads few spells is) e taken =
     let same : r ≡ check = one_request_asked words r check asked asks in
     record {
       bytes = bytes;
       told = told;
       plan = p;
       spells = spells;
-      taken = subst (λ x. Appends old new (text_of_outcome x)) (is ∙ ap (λ x. answer_of x p) same) taken;
+      taken = subst (λ x. Appends old new (text_of_outcome x)) (is ∙ ap (λ x. answer_of x [] p) same) taken;
       again = rewritten bytes p spells;
     }
 
@@ -207,18 +210,21 @@ writes_plan words held old new TooLong is asks e = cc
 abbrev IsNoUsage : Outcome → Type 0
 IsNoUsage o = Usage ≡ status_of o → ⊥
 
-no_usage : (r : Request) (p : Plan) → IsNoUsage (answer_of r p)
+no_usage : (r : Request) (p : Plan) → IsNoUsage (answer_of r [] p)
 no_usage check p = λ e. cc
 no_usage (replay order) p = replayed_cases IsNoUsage p order (λ name len e. cc) (λ place e. cc) (λ e. cc)
     (λ built fits e. cc)
+no_usage run p = replayed_cases IsNoUsage p [] (λ name len e. cc) (λ place e. cc) (λ e. cc) (λ built fits e. cc)
+no_usage (big n) p = λ e. cc
 
-without_form : (words : List (List ℕ)) (bytes : List ℕ) (o : Outcome) → ComesTo words bytes o → Usage ≡ status_of o
+without_form : (words : List (List ℕ)) (bytes : List ℕ) (o : Outcome) → ComesTo words bytes [] o → Usage ≡ status_of o
     → HaveNoForm words
 without_form words bytes o (no_form none) e = none
-without_form words bytes o (large r asked many) e = cc
-without_form words bytes o (a_fault r f asked few is) e = cc
-without_form words bytes o (a_cycle r names asked few is) e = cc
-without_form words bytes o (a_plan r p asked few spells is) e = absurd (no_usage r p (e ∙ ap status_of is))
+without_form words bytes o (a_size n asked) e = absurd asked.0
+without_form words bytes o (large r asked reads many) e = cc
+without_form words bytes o (a_fault r f asked reads few is) e = cc
+without_form words bytes o (a_cycle r names asked reads few is) e = cc
+without_form words bytes o (a_plan r p asked reads few spells is) e = absurd (no_usage r p (e ∙ ap status_of is))
 
 -- with the status Usage the words have no form
 pub usage_without_form : (words : List (List ℕ)) (held old new : Option (List ℕ)) (s : Status)
@@ -273,10 +279,22 @@ read_all_of old new bytes Write is behind = absurd behind
 read_all_of old new bytes Memory is behind = absurd behind
 read_all_of old new bytes TooLarge is behind = absurd behind
 
+-- what was read before an answer
+read_for : (old new : Option (List ℕ)) (a : Answer) → HasRead old new (status_at a) → HasReadFor old new (status_at a)
+read_for old new answer.Usage h = h
+read_for old new answer.TooLarge h = h
+read_for old new (answer.Faulty text) h = h
+read_for old new (answer.Circular text) h = h
+read_for old new (answer.Written text) h = h
+read_for old new answer.Unbuilt h = h
+read_for old new (answer.TooLong text) h = h
+read_for old new (answer.Misfit text) h = h
+read_for old new (answer.Reported text) h = h
+
 -- what was read stays so, whatever the sink took
 pub read_by_status : (old new had has : Option (List ℕ)) (a : Answer) (s : Status) → Gives had has a s
     → HasRead old new (status_at a) → HasRead old new s
-read_by_status old new had has a Write g h = tt
+read_by_status old new had has a Write g h = (status_at a, read_for old new a h)
 read_by_status old new had has a Done g h = subst (HasRead old new) (sym g.0) h
 read_by_status old new had has a Usage g h = subst (HasRead old new) (sym g.0) h
 read_by_status old new had has a PlanStatus g h = subst (HasRead old new) (sym g.0) h
@@ -285,18 +303,6 @@ read_by_status old new had has a Memory g h = subst (HasRead old new) (sym g.0) 
 read_by_status old new had has a Order g h = subst (HasRead old new) (sym g.0) h
 read_by_status old new had has a TooLarge g h = subst (HasRead old new) (sym g.0) h
 read_by_status old new had has a TooLong g h = subst (HasRead old new) (sym g.0) h
-
-pub usage_by_status : (had has : Option (List ℕ)) (a : Answer) (s : Status) → Gives had has a s → IsUsage (status_at a)
-    → IsUsage s
-usage_by_status had has a Write g h = tt
-usage_by_status had has a Done g h = subst IsUsage (sym g.0) h
-usage_by_status had has a Usage g h = tt
-usage_by_status had has a PlanStatus g h = subst IsUsage (sym g.0) h
-usage_by_status had has a Read g h = subst IsUsage (sym g.0) h
-usage_by_status had has a Memory g h = tt
-usage_by_status had has a Order g h = subst IsUsage (sym g.0) h
-usage_by_status had has a TooLarge g h = subst IsUsage (sym g.0) h
-usage_by_status had has a TooLong g h = subst IsUsage (sym g.0) h
 
 -- a sink with room for every text has room for this one
 pub room_for : (words : List (List ℕ)) (held : Option (List ℕ)) (a : Answer) (n : ℕ) → AnswersWords words held a

@@ -1,4 +1,5 @@
 pub mod WordLaws
 pub mod PlanLaws
+pub mod BuiltLaws
 pub mod RequestLaws
 pub mod CallLaws

@@ -1,35 +1,26 @@
--- What holds of each plan that a text spells: a world of it can be opened where all of it is built, in every run each list
--- shows its view of its inputs, and each listener hears of its list.
-use Rattle.std.proofs.Common.{ℕ, ◌≤◌, List, sym, subst, arith}
+-- What holds of each plan that a text spells: in every run each list shows its view of its inputs, and each listener hears
+-- of its list.
+use Rattle.std.proofs.Common.{ℕ, List, sym, subst}
 use Rattle.gl_outside.specs.declared.gate.Actor.{Actor}
 use Rattle.spec_plans.specs.Plan.{Plan}
 use Rattle.spec_states.specs.Shown.{EachShowsItsView}
 use Rattle.spec_canonical.specs.WellFormed.{IsWellFormed}
 use Rattle.spec_canonical.proofs.Sound.{sound_lines_well_formed}
 use Rattle.spec_plan_texts.specs.Text.{SpellsPlan}
-use Rattle.spec_plan_laws.proofs.Good.{IsGood, made_good}
-use Rattle.spec_plan_laws.proofs.Read.{read_within}
 use Rattle.spec_runs.specs.Laws.{EachHears}
 use Rattle.spec_runs.specs.Run.{run}
 use Rattle.spec_runs.proofs.Hearing.{hears_well_formed}
-use Rattle.spec_runs.proofs.Ordered.{well_formed_ordered, views_of_run}
+use Rattle.spec_runs.proofs.Ordered.{views_of_run}
 
-pub spelled_plan_formed : (bytes : List ℕ) (p : Plan) → SpellsPlan bytes p → IsWellFormed p
+spelled_plan_formed : (bytes : List ℕ) (p : Plan) → SpellsPlan bytes p → IsWellFormed p
 spelled_plan_formed bytes p spells =
     subst IsWellFormed (sym spells.makes) (sound_lines_well_formed spells.lines spells.sound)
-
--- a delta of lists that are no longer can be made
-pub spelled_plan_few : (bytes : List ℕ) (p : Plan) → SpellsPlan bytes p → p.limit ≤ 2147483647
-spelled_plan_few bytes p spells =
-    let good : IsGood p = subst IsGood (sym spells.makes)
-    (made_good spells.lines (read_within bytes spells.lines spells.read)) in
-    omega (arith, good.limit.1)
 
 -- in every run of the plan each list shows its view of what its inputs show
 pub views_of_spelled : (bytes : List ℕ) (p : Plan) (order : List Actor) → SpellsPlan bytes p
     → EachShowsItsView (run p order).state
 views_of_spelled bytes p order spells =
-    views_of_run p order (well_formed_ordered p (spelled_plan_formed bytes p spells) spells.acyclic)
+    views_of_run p order (spelled_plan_formed bytes p spells) spells.acyclic
 
 -- and each listener hears of its list
 pub hears_of_spelled : (bytes : List ℕ) (p : Plan) → SpellsPlan bytes p → EachHears p

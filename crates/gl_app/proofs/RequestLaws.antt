@@ -1,5 +1,5 @@
 -- From what the parts of the code answer, what a request for the bytes comes to.
-use Rattle.std.proofs.Common.{◌≡◌, ℕ, ◌≤◌, List, Option, Some, None, Bool, true, false, cond, length, refl, sym, subst}
+use Rattle.std.proofs.Common.{◌≡◌, ℕ, ◌≤◌, List, Option, Some, None, Bool, true, false, cond, [], length, refl, sym, subst}
 use Rattle.gl_outside.specs.declared.gate.Actor.{Actor}
 use Rattle.gl_lines.specs.declared.reply.Reply.{Reply}
 use Rattle.gl_lines.specs.declared.reply.Reply.TheVariants as reply
@@ -8,12 +8,13 @@ use Rattle.gl_plan.specs.declared.fault.PlanFault.TheVariants as fault
 use Rattle.gl_plan_texts.specs.Spelled.{fault_at, IsFault}
 use Rattle.spec_plans.specs.Plan.{Plan}
 use Rattle.spec_plan_texts.specs.Text.{SpellsPlan}
-use Rattle.spec_states.specs.State.{opening}
+use Rattle.spec_states.specs.Opening.{opening}
 use Rattle.spec_states.specs.Step.{too_long as first_too_long}
-use Rattle.spec_runs.specs.Built.{is_built}
+use Rattle.spec_plans.specs.Built.{is_built}
 use Rattle.spec_runs.specs.Fits.{BadPlace, Fits, first_bad_place}
 use Rattle.spec_reports.specs.Report.{report, list_name}
-use Rattle.spec_reports.specs.Words.{Request, check, replay}
+use Rattle.spec_reports.specs.Words.{Request, check, replay, run, big}
+use Rattle.spec_reports.proofs.Answer.{reads_plan}
 use Rattle.spec_reports.specs.Answer.{Outcome, faulty, circular, unbuilt, too_long, misfit, reported, taken, opened, replayed, answer_of, a_fault, a_cycle, a_plan, most_bytes}
 use Rattle.gl_app.specs.declared.answer.Answer.{Answer}
 use Rattle.gl_app.specs.Status.{status_of}
@@ -33,10 +34,10 @@ opened_long p order a list len some is = subst (λ r. IsOf a (opened p order r))
 
 -- the bytes spell a plan
 pub plan_answer : (request : Request) (bytes : List ℕ) (p : Plan) (a : Answer) → length bytes ≤ most_bytes
-    → SpellsPlan bytes p → IsOf a (answer_of request p) → AnswersBytes request bytes a
+    → SpellsPlan bytes p → IsOf a (answer_of request [] p) → AnswersBytes request bytes a
 plan_answer request bytes p a few spells is = record {
-  outcome = answer_of request p;
-  comes = λ words asks. a_plan request p asks few spells refl;
+  outcome = answer_of request [] p;
+  comes = λ words asks. a_plan request p asks (reads_plan words request asks) few spells refl;
   is = is;
 }
 
@@ -45,9 +46,9 @@ pub fault_answer : (request : Request) (bytes : List ℕ) (f : PlanFault) (a : A
     → IsFault bytes f → AnswersFault f a → AnswersBytes request bytes a
 fault_answer request bytes (fault.At line column kind) a few is answers =
     let f = fault_at line column kind in
-    record { outcome = faulty f; comes = λ words asks. a_fault request f asks few is; is = answers }
+    record { outcome = faulty f; comes = λ words asks. a_fault request f asks (reads_plan words request asks) few is; is = answers }
 fault_answer request bytes (fault.Cycle names) a few is answers =
-    record { outcome = circular names; comes = λ words asks. a_cycle request names asks few is; is = answers }
+    record { outcome = circular names; comes = λ words asks. a_cycle request names asks (reads_plan words request asks) few is; is = answers }
 fault_answer request bytes fault.Memory a few is answers = absurd answers
 
 -- What a replay comes to, by its cases.
@@ -83,11 +84,13 @@ replayed_cases P p order long bad none some = built_cases P p order long bad (is
 abbrev IsBehind : Outcome → Type 0
 IsBehind o = IsBehindAll (status_of o)
 
-behind_outcome : (r : Request) (p : Plan) → IsBehind (answer_of r p)
+behind_outcome : (r : Request) (p : Plan) → IsBehind (answer_of r [] p)
 behind_outcome check p = tt
 behind_outcome (replay order) p = replayed_cases IsBehind p order (λ name len. tt) (λ place. tt) tt (λ built fits. tt)
+behind_outcome run p = replayed_cases IsBehind p [] (λ name len. tt) (λ place. tt) tt (λ built fits. tt)
+behind_outcome (big n) p = tt
 
-pub behind_request : (r : Request) (p : Plan) (a : Answer) → IsOf a (answer_of r p) → IsBehindAll (status_at a)
+pub behind_request : (r : Request) (p : Plan) (a : Answer) → IsOf a (answer_of r [] p) → IsBehindAll (status_at a)
 behind_request r p a is = subst IsBehindAll (sym is.status) (behind_outcome r p)
 
 pub behind_fault : (f : PlanFault) (a : Answer) → AnswersFault f a → IsBehindAll (status_at a)

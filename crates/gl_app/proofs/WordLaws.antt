@@ -1,14 +1,14 @@
 -- An order that is read is spelled so, and one that is spelled is read again.
-use Rattle.std.proofs.Common.{◌≡◌, ◌∙◌, ℕ, ◌+◌, ◌<◌, ◌^◌, Bool, true, false, not, cond, eqb, List, [], ◌∷◌, ◌++◌, map, Option, Some, None, refl, sym, ap, subst, arith, append_assoc, append-nil}
-use Rattle.std.specs.Prelude.{codes, decimal, bytes_eq, option_map, option_and_then}
+use Rattle.std.proofs.Common.{◌≡◌, ◌∙◌, ℕ, ◌<◌, ◌^◌, Bool, true, false, not, cond, eqb, List, [], ◌∷◌, ◌++◌, map, Option, Some, None, refl, sym, ap, subst, arith, append_assoc, append-nil}
+use Rattle.std.specs.Prelude.{codes, decimal, bytes_eq, option_map, option_and_then, is_some}
 use Rattle.std.specs.List.{AllByRecursion}
-use Rattle.std.proofs.lemmas.Bool.{and_parts, eqb-true, not-true}
+use Rattle.std.proofs.lemmas.Bool.{and_parts, eqb-true, not-true, false≢true}
 use Rattle.std.proofs.lemmas.Option.{same_Some, none-some}
 use Rattle.std.proofs.lemmas.Slice.Eq.{bytes_eq-Decides}
 use Rattle.gl_outside.specs.declared.gate.Actor.{Actor}
 use Rattle.gl_outside.specs.declared.gate.Actor.TheVariants.{Writer, Proxy}
 use Rattle.spec_reports.specs.Order.{spelled_actor, spelled_rest, spelled_order, IsActor, AsksReplay}
-use Rattle.spec_reports.specs.Words.{Request, check, replay, Asks, HaveNoForm}
+use Rattle.spec_reports.specs.Words.{Request, check, replay, run, big, Asks, HaveNoForm}
 use Rattle.gl_text.specs.Numbers.{index_in}
 use Rattle.spec_texts.specs.Cuts.{cut, with_front}
 use Rattle.gl_text.proofs.CutLaws.{longer, lacks}
@@ -211,6 +211,8 @@ order_again (a ∷ order) all = rw (no_dash a (spelled_rest order)) (ap actors_i
 asked_again : (words : List (List ℕ)) (request : Request) → Asks words request → asked words ≡ Some request
 asked_again words check asks = ap asked asks
 asked_again words (replay order) asks = ap asked asks.are ∙ ap (option_map replay) (order_again order asks.actors)
+asked_again words run asks = absurd asks.0
+asked_again words (big n) asks = absurd asks.0
 
 -- what the code says of a request that it found, and of none
 pub asks_what_is_asked : (words : List (List ℕ)) (request : Request) → Some request ≡ asked words → Asks words request
@@ -218,6 +220,21 @@ asks_what_is_asked words request e = asks words request (sym e)
 
 pub no_form_without : (words : List (List ℕ)) → None ≡ asked words → HaveNoForm words
 no_form_without words e = λ request asks. none-some request (e ∙ asked_again words request asks)
+
+-- words of the form of a request ask for one
+pub formed : (words : List (List ℕ)) → is_some (asked words) ≡ true → HaveNoForm words → ⊥
+formed words e none = by_asked (asked words) refl e
+  where
+    by_asked : (o : Option Request) → asked words ≡ o → is_some o ≡ true → ⊥
+    by_asked None is some = absurd (false≢true some)
+    by_asked (Some request) is some = none request (asks words request is)
+
+pub unformed : (words : List (List ℕ)) → is_some (asked words) ≡ false → HaveNoForm words
+unformed words e = by_asked (asked words) refl e
+  where
+    by_asked : (o : Option Request) → asked words ≡ o → is_some o ≡ false → HaveNoForm words
+    by_asked None is none = no_form_without words (sym is)
+    by_asked (Some request) is none = absurd (false≢true (sym none))
 
 -- the words ask for one request at most
 pub one_request_asked : (words : List (List ℕ)) (p q : Request) → Asks words p → Asks words q → p ≡ q
@@ -247,6 +264,38 @@ no_actor order bs piece others whole at is before =
     sym (ap (λ ps. option_map (λ more. order ++ more) (actors_in ps)) (pieces_at bs (piece, others) (sym at))
     ∙ ap (λ o. option_map (λ more. order ++ more)
     (option_and_then (λ x. option_map (λ more. x ∷ more) (actors_in (pieces others))) o)) (sym is)) ∙ before
+
+-- ---- whether bytes spell actors, without the actors
+
+some_of_map : {X Y : Type 0} (f : X → Y) (o : Option X) → is_some (option_map f o) ≡ is_some o
+some_of_map f None = refl
+some_of_map f (Some x) = refl
+
+-- a piece that spells an actor leaves the question to the others
+pub actor_skipped : (bs piece others : List ℕ) (a : Actor) → Some (piece, others) ≡ cut 44 bs → Some a ≡ actor_in piece
+    → is_some (actors_in (pieces others)) ≡ is_some (actors_in (pieces bs))
+actor_skipped bs piece others a at is =
+    sym (ap (λ ps. is_some (actors_in ps)) (pieces_at bs (piece, others) (sym at))
+    ∙ ap (λ o. is_some (option_and_then (λ x. option_map (λ more. x ∷ more) (actors_in (pieces others))) o)) (sym is)
+    ∙ some_of_map (λ more. a ∷ more) (actors_in (pieces others)))
+
+-- a piece that spells none answers it
+pub no_actor_here : (bs piece others : List ℕ) → Some (piece, others) ≡ cut 44 bs → None ≡ actor_in piece
+    → false ≡ is_some (actors_in (pieces bs))
+no_actor_here bs piece others at is =
+    sym (ap (λ ps. is_some (actors_in ps)) (pieces_at bs (piece, others) (sym at))
+    ∙ ap (λ o. is_some (option_and_then (λ x. option_map (λ more. x ∷ more) (actors_in (pieces others))) o)) (sym is))
+
+-- and so does the last piece
+pub last_here : (bs : List ℕ) (o : Option Actor) → None ≡ cut 44 bs → o ≡ actor_in bs
+    → is_some o ≡ is_some (actors_in (pieces bs))
+last_here bs o at is =
+    closed o ∙ ap (λ x. is_some (option_and_then (λ a. Some (a ∷ [])) x)) is
+    ∙ ap (λ ps. is_some (actors_in ps)) (sym (one_piece bs (sym at)))
+  where
+    closed : (x : Option Actor) → is_some x ≡ is_some (option_and_then (λ a. Some (a ∷ [])) x)
+    closed None = refl
+    closed (Some a) = refl
 
 -- the last piece
 pub last_actor : (order : List Actor) (bs : List ℕ) (o : Option Actor) (whole : Option (List Actor)) → None ≡ cut 44 bs

@@ -1,5 +1,5 @@
 -- What the answers of the code stand for.
-use Rattle.std.specs.Prelude.{◌≡◌, ℕ, List}
+use Rattle.std.specs.Prelude.{◌≡◌, ℕ, List, []}
 use Rattle.gl_plan.specs.declared.fault.PlanFault.{PlanFault}
 use Rattle.gl_plan.specs.declared.fault.PlanFault.TheVariants as fault
 use Rattle.gl_plan_texts.specs.Spelled.{fault_at}
@@ -47,5 +47,5 @@ AnswersFault fault.Memory a = ⊥
 -- the answer of a request and the bytes, by whatever words ask for it
 pub record AnswersBytes (request : Request) (bytes : List ℕ) (a : Answer) : Type 0 where
   pub outcome : Outcome
-  pub comes : (words : List (List ℕ)) → Asks words request → ComesTo words bytes outcome
+  pub comes : (words : List (List ℕ)) → Asks words request → ComesTo words bytes [] outcome
   pub is : IsOf a outcome

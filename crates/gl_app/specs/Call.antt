@@ -8,7 +8,7 @@ use Rattle.spec_states.specs.Shown.{EachShowsItsView}
 use Rattle.spec_canonical.specs.Canonical.{spelled_plan}
 use Rattle.spec_plan_texts.specs.Text.{SpellsPlan}
 use Rattle.spec_plan_laws.specs.Short.{HasShortLines}
-use Rattle.spec_runs.specs.Built.{is_built}
+use Rattle.spec_plans.specs.Built.{is_built}
 use Rattle.spec_runs.specs.Fits.{Fits}
 use Rattle.spec_runs.specs.Laws.{EachHears}
 use Rattle.spec_runs.specs.Run.{run}
@@ -40,7 +40,7 @@ pub record AnswersWords (words : List (List ℕ)) (held : Option (List ℕ)) (a 
   pub bytes : List ℕ
   pub told : Tells held bytes
   pub outcome : Outcome
-  pub comes : ComesTo words bytes outcome
+  pub comes : ComesTo words bytes [] outcome
   pub is : IsOf a outcome
 
 -- the status, where the sink takes all of the text
@@ -49,11 +49,11 @@ status_after (Ok a) = status_at a
 status_after (Err stop.Read) = Read
 status_after (Err stop.Memory) = Memory
 
--- the statuses of words without a form
+-- the statuses of words without a form: their form is judged before any memory is taken
 abbrev pub IsUsage : Status → Type 0
 IsUsage Usage = ⊤
 IsUsage Write = ⊤
-IsUsage Memory = ⊤
+IsUsage Memory = ⊥
 IsUsage Done = ⊥
 IsUsage PlanStatus = ⊥
 IsUsage Read = ⊥
@@ -69,24 +69,30 @@ IsBehindAll Order = ⊤
 IsBehindAll TooLong = ⊤
 IsBehindAll other = ⊥
 
--- What was read of the source, by the status: all of it, more than a plan may have, at most that, or nothing.
+-- What was read of the source before an answer of this status: all of it, more than a plan may have, at most that, or
+-- nothing.
+abbrev pub HasReadFor : Option (List ℕ) → Option (List ℕ) → Status → Type 0
+HasReadFor old new Done = IfSome old (λ all. new ≡ Some [])
+HasReadFor old new PlanStatus = IfSome old (λ all. new ≡ Some [])
+HasReadFor old new Order = IfSome old (λ all. new ≡ Some [])
+HasReadFor old new TooLong = IfSome old (λ all. new ≡ Some [])
+HasReadFor old new TooLarge = Took old new (λ n. most_bytes < n)
+HasReadFor old new Read = Took old new (λ n. n ≤ most_bytes)
+HasReadFor old new Memory = Took old new (λ n. n ≤ most_bytes)
+HasReadFor old new Usage = new ≡ old
+HasReadFor old new Write = ⊥
+
+-- What was read of the source, by the status. Where the sink didn't take the text of an answer, it is what that answer read.
 abbrev pub HasRead : Option (List ℕ) → Option (List ℕ) → Status → Type 0
-HasRead old new Done = IfSome old (λ all. new ≡ Some [])
-HasRead old new PlanStatus = IfSome old (λ all. new ≡ Some [])
-HasRead old new Order = IfSome old (λ all. new ≡ Some [])
-HasRead old new TooLong = IfSome old (λ all. new ≡ Some [])
-HasRead old new TooLarge = Took old new (λ n. most_bytes < n)
-HasRead old new Read = Took old new (λ n. n ≤ most_bytes)
-HasRead old new Memory = Took old new (λ n. n ≤ most_bytes)
-HasRead old new Usage = new ≡ old
-HasRead old new Write = ⊤
+HasRead old new Write = (answered : Status) × HasReadFor old new answered
+HasRead old new status = HasReadFor old new status
 
 -- the status is that of what the words and the source's bytes come to, and the sink took all of its text
 pub record Answered (words : List (List ℕ)) (held old new : Option (List ℕ)) (status : Status) : Type 0 where
   pub bytes : List ℕ
   pub told : Tells held bytes
   pub outcome : Outcome
-  pub comes : ComesTo words bytes outcome
+  pub comes : ComesTo words bytes [] outcome
   pub is : status ≡ status_of outcome
   pub taken : Appends old new (text_of_outcome outcome)
 
@@ -95,7 +101,7 @@ pub record Begun (words : List (List ℕ)) (held old new : Option (List ℕ)) : 
   pub bytes : List ℕ
   pub told : Tells held bytes
   pub outcome : Outcome
-  pub comes : ComesTo words bytes outcome
+  pub comes : ComesTo words bytes [] outcome
   pub part : AppendsFront old new (text_of_outcome outcome)
 
 -- what each status says
@@ -136,7 +142,7 @@ pub record WritesPlan (held old new : Option (List ℕ)) : Type 0 where
 
 -- no text that the words and the source's bytes may come to is longer
 abbrev pub MostText : List (List ℕ) → Option (List ℕ) → ℕ → Type 0
-MostText words held n = (bytes : List ℕ) (o : Outcome) → Tells held bytes → ComesTo words bytes o
+MostText words held n = (bytes : List ℕ) (o : Outcome) → Tells held bytes → ComesTo words bytes [] o
     → length (text_of_outcome o) ≤ n
 
 -- the statuses that come before the sink is given anything

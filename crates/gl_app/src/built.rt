@@ -2,7 +2,7 @@
 
 ghost use Rattle.std.specs.Prelude.{◌≡◌};
 ghost use Rattle.std.specs.List.{list_all};
-ghost use Rattle.spec_runs.specs.Built as built;
+ghost use Rattle.spec_plans.specs.Built as built;
 
 use gl_lines::{ListDecl, ListKind, ListenerDecl};
 use gl_plan_texts::Plan;

@@ -6,6 +6,7 @@
 mod answer;
 mod built;
 mod call;
+mod form;
 mod laws;
 mod outcome;
 mod reading;

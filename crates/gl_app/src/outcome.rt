@@ -9,6 +9,7 @@ ghost use Rattle.gl_app.specs.Call.{AnswersRequest, AnswersWords, HasRead, statu
 ghost use Rattle.gl_app.specs.Words.{request_of};
 
 use crate::answer::Answer;
+use crate::form::have_form;
 use crate::reading::{ReadAllFault, read_all};
 use crate::requests::{answer_fault, answer_request};
 use crate::words::{Request, read_words};
@@ -52,6 +53,9 @@ pub fn answer_words<N: RunName, S: Source>(
     ensures failed { IsErrOf result Stop.Read → Rose (S.faults source.old) (S.faults source.new) }
     ensures sound { S.never_fails source.old → S.faults source.new ≡ S.faults source.old }
 {
+    if !have_form(words) {
+        return Ok(Answer::Usage);
+    }
     match read_words(alloc, words)? {
         None => Ok(Answer::Usage),
         Some(request) => answer_source::<N, S>(alloc, &request, source),
@@ -77,7 +81,7 @@ fn answer_source<N: RunName, S: Source>(
     }
 }
 
-#[tactic(auto, using(crate::proofs::PlanLaws::spelled_plan_formed, crate::proofs::PlanLaws::spelled_plan_few, crate::proofs::RequestLaws::plan_answer, crate::proofs::RequestLaws::fault_answer, crate::proofs::RequestLaws::behind_request, crate::proofs::RequestLaws::behind_fault))]
+#[tactic(auto, using(crate::proofs::RequestLaws::plan_answer, crate::proofs::RequestLaws::fault_answer, crate::proofs::RequestLaws::behind_request, crate::proofs::RequestLaws::behind_fault))]
 fn answer_bytes<N: RunName>(
     alloc: Global,
     bytes: &[u8],

@@ -1,6 +1,7 @@
 //! The entries of an order, taken one after another.
 
-ghost use Rattle.std.specs.Prelude.{◌≡◌, ◌<◌, [], IfOk, IfNone, option_map};
+ghost use Rattle.std.specs.Prelude.{◌≡◌, ◌<◌, [], true, IfOk, IfNone, option_map};
+ghost use Rattle.spec_plans.specs.Built.{is_built};
 ghost use Rattle.spec_runs.specs.Fits.{reason_at, first_bad_place};
 ghost use Rattle.gl_world.specs.History.{with_entry};
 ghost use Rattle.gl_app.specs.BadPlace.{reason_of, bad_place_of};
@@ -30,12 +31,14 @@ pub struct BadPlace {
     pub reason: Reason,
 }
 
-/// Takes the entries of an order in a world that has none yet. It stops at the first bad place, and answers that.
+/// Takes the entries of an order in a world that has none yet, of a plan of which all is built. It stops at the first bad
+/// place, and answers that.
 pub fn replay<N: RunName>(
     world: &mut World<N>,
     order: &[Actor],
 ) -> Result<Option<BadPlace>, AllocError>
-    requires { world.old.order ≡ [] }
+    requires built { is_built world.old.plan ≡ true }
+    requires open { world.old.order ≡ [] }
     ensures bad { IfOk result (λ bad. option_map bad_place_of bad ≡ first_bad_place world.old.plan order.now) }
     ensures whole { IfOk result (λ bad. IfNone bad (world.new ≡ record { plan = world.old.plan; order = order.now })) }
 {
@@ -51,6 +54,7 @@ fn replay_counted<N: RunName, L: Ledger>(
     requires name { blank.name ≡ L.name }
     requires parts { blank.parts ≡ L.parts }
     requires some { 0 < blank.parts }
+    requires built { is_built world.old.plan ≡ true }
     requires open { world.old.order ≡ [] }
     ensures bad { IfOk result (λ bad. option_map bad_place_of bad ≡ first_bad_place world.old.plan order.now) }
     ensures whole { IfOk result (λ bad. IfNone bad (world.new ≡ record { plan = world.old.plan; order = order.now })) }
@@ -67,12 +71,14 @@ fn replay_counted<N: RunName, L: Ledger>(
     Ok(None)
 }
 
-// Takes the actor's next entry, or says why it can't be taken.
+// Takes the actor's next entry, or says why it can't be taken. No proxy can take any, since what is built has none.
+#[tactic(auto, using(crate::proofs::BuiltLaws::no_proxy_at))]
 fn take_entry<N: RunName, L: Ledger>(
     world: &mut World<N>,
     actor: Actor,
     steps: &mut Steps<L>,
 ) -> Result<Option<Reason>, AllocError>
+    requires { is_built world.old.plan ≡ true }
     ensures reason { IfOk result (λ r. option_map reason_of r ≡ reason_at world.old.plan world.old.order actor) }
     ensures entry { IfOk result (λ r. IfNone r (world.new ≡ with_entry world.old actor)) }
 {

@@ -1,12 +1,11 @@
 //! What the requests for a plan come to.
 
-ghost use Rattle.std.specs.Prelude.{◌≡◌, ◌≤◌, [], IfOk};
-ghost use Rattle.spec_canonical.specs.WellFormed.{IsWellFormed};
-ghost use Rattle.spec_states.specs.State.{opening};
+ghost use Rattle.std.specs.Prelude.{◌≡◌, [], true, IfOk};
+ghost use Rattle.spec_plans.specs.Built.{is_built as all_built};
+ghost use Rattle.spec_states.specs.Opening.{opening};
 ghost use Rattle.spec_states.specs.Step.{too_long as first_too_long};
 ghost use Rattle.spec_runs.specs.Fits.{first_bad_place};
 ghost use Rattle.spec_reports.specs.Answer.{answer_of, replayed, opened, taken};
-ghost use Rattle.gl_world.specs.World.{CanOpen};
 ghost use Rattle.gl_app.specs.Answer.{IsOf, AnswersFault};
 ghost use Rattle.gl_app.specs.Words.{request_of};
 
@@ -42,9 +41,7 @@ pub fn answer_request<N: RunName>(
     plan: &Plan,
     request: &Request,
 ) -> Result<Answer, AllocError>
-    requires formed { IsWellFormed plan.now }
-    requires few { plan.now.limit ≤ 2147483647 }
-    ensures { IfOk result (λ a. IsOf a (answer_of (request_of request.now) plan.now)) }
+    ensures { IfOk result (λ a. IsOf a (answer_of (request_of request.now) [] plan.now)) }
 {
     match request {
         Request::Check => {
@@ -61,8 +58,6 @@ fn answer_replay<N: RunName>(
     plan: &Plan,
     order: &[Actor],
 ) -> Result<Answer, AllocError>
-    requires formed { IsWellFormed plan.now }
-    requires few { plan.now.limit ≤ 2147483647 }
     ensures { IfOk result (λ a. IsOf a (replayed plan.now order.now)) }
 {
     if is_built(plan) {
@@ -78,7 +73,7 @@ fn answer_built<N: RunName>(
     plan: &Plan,
     order: &[Actor],
 ) -> Result<Answer, AllocError>
-    requires { CanOpen plan.now }
+    requires { all_built plan.now ≡ true }
     ensures { IfOk result (λ a. IsOf a (opened plan.now order.now (first_too_long plan.now.limit (opening plan.now)))) }
 {
     match World::<N>::open(alloc, plan) {
@@ -98,7 +93,8 @@ fn answer_world<N: RunName>(
     world: &mut World<N>,
     order: &[Actor],
 ) -> Result<Answer, AllocError>
-    requires { world.old.order ≡ [] }
+    requires built { all_built world.old.plan ≡ true }
+    requires open { world.old.order ≡ [] }
     ensures { IfOk result (λ a. IsOf a (taken world.old.plan order.now (first_bad_place world.old.plan order.now))) }
 {
     match replay(world, order)? {

@@ -102,8 +102,9 @@ fn read_actors(alloc: Global, bytes: &[u8]) -> Result<Option<Vec<Actor>>, AllocE
     Ok(Some(order))
 }
 
+/// The actor that the bytes spell.
 #[tactic(auto, unfolding(crate::specs::Words::actor_in))]
-fn read_actor(bytes: &[u8]) -> Option<Actor>
+pub fn read_actor(bytes: &[u8]) -> Option<Actor>
     ensures { result ≡ actor_in bytes.now }
 {
     match bytes {

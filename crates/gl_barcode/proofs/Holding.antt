@@ -1,10 +1,10 @@
 -- Lemmas on truth values that are kept as colours.
 use Rattle.std.proofs.Common.{◌≡◌, ℕ, zero, suc, ◌+◌, ◌-◌, ◌<◌, ◌≤◌, Bool, true, false, cond, List, [], ◌∷◌, ◌++◌, length, take, drop, replicate, set, insert, remove, Option, Some, None, refl, sym, ap, ◌∙◌, inl, inr, subst, arith}
 use Rattle.std.specs.List.{slice_get}
-use Rattle.std.specs.Prelude.{slice_index, IfSome, Result, Ok, Err, OnOk}
+use Rattle.std.specs.Prelude.{slice_index, IsTrue, IfSome, Result, Ok, Err, OnOk}
 use Rattle.gl_fourcolour.specs.Colours.{Colours, inserted, painted, removed, begins_with, run_count, is_among, count_among, IsKth, AllBelow}
 use Rattle.gl_fourcolour.specs.Colours as colours
-use Rattle.gl_barcode.specs.Bars.{Bars, count_shown, same, begins_alike, stretch_count, IsKthShown, spare, HasRoom}
+use Rattle.gl_barcode.specs.Bars.{Bars, count_shown, count_hidden, same, begins_alike, stretch_count, IsKthShown, IsKthHidden, spare, HasRoom}
 use Rattle.gl_barcode.specs.Held.{is_shown, colour_of, shown_of}
 
 pub length-shown : (xs : List ℕ) → length (shown_of xs) ≡ length xs
@@ -110,6 +110,21 @@ count-shown (x ∷ xs) all =
 pub count-taken : (n : ℕ) (xs : List ℕ) → AllBelow 2 xs → count_among 2 (take n xs) ≡ count_shown (take n (shown_of xs))
 count-taken n xs all = count-shown (take n xs) (below-take n xs all) ∙ ap count_shown (shown-take n xs)
 
+-- the same for the hidden places
+among-hidden : (c : ℕ) → c < 2 → let a : ℕ = cond (is_among 1 c) 1 0 in let b : ℕ = cond (is_shown c) 0 1 in a ≡ b
+unfolding is_among
+among-hidden zero below = refl
+among-hidden (suc zero) below = refl
+among-hidden (suc (suc c)) below = absurd (omega (arith, below))
+
+pub count-hidden : (xs : List ℕ) → AllBelow 2 xs → count_among 1 xs ≡ count_hidden (shown_of xs)
+unfolding count_among count_hidden
+count-hidden [] all = refl
+count-hidden (x ∷ xs) all = omega (arith, among-hidden x all.0, count-hidden xs all.1)
+
+hidden-taken : (n : ℕ) (xs : List ℕ) → AllBelow 2 xs → count_among 1 (take n xs) ≡ count_hidden (take n (shown_of xs))
+hidden-taken n xs all = count-hidden (take n xs) (below-take n xs all) ∙ ap count_hidden (shown-take n xs)
+
 alike : (x y : ℕ) → x < 2 → y < 2 → begins_with x (y ∷ []) ≡ same (is_shown y) (is_shown x)
 alike zero zero a b = refl
 alike zero (suc zero) a b = refl
@@ -152,6 +167,47 @@ pub kth_found : (k : ℕ) (xs : List ℕ) (bs : List Bool) (result : Option ℕ)
 kth_found k xs bs None all is h = tt
 kth_found k xs bs (Some place) all is h = subst (λ cs. IsKthShown k cs place) is (kth k xs place all h)
 
+not_shown : (c : ℕ) → c < 2 → IsTrue (is_among 1 c) → is_shown c ≡ false
+unfolding is_among
+not_shown zero below h = refl
+not_shown (suc zero) below h = cc
+not_shown (suc (suc c)) below h = absurd (omega (arith, below))
+
+kth_hidden : (k : ℕ) (xs : List ℕ) (place : ℕ) → AllBelow 2 xs → IsKth 1 k xs place → IsKthHidden k (shown_of xs) place
+kth_hidden k xs place all h =
+    let one = not_shown (slice_index xs place) (below-index xs place h.in_range all) h.among in
+    record {
+      hidden = get-shown xs place h.in_range ∙ ap (λ b. Some b) one;
+      before = sym (hidden-taken place xs all) ∙ h.before;
+    }
+
+pub hidden_found : (k : ℕ) (xs : List ℕ) (bs : List Bool) (result : Option ℕ) → AllBelow 2 xs → shown_of xs ≡ bs → IfSome result (IsKth 1 k xs) → IfSome result (IsKthHidden k bs)
+hidden_found k xs bs None all is h = tt
+hidden_found k xs bs (Some place) all is h = subst (λ cs. IsKthHidden k cs place) is (kth_hidden k xs place all h)
+
+-- places put in at the end
+shown-filled : (n c : ℕ) (b : Bool) → c ≡ colour_of b → shown_of (replicate n c ++ []) ≡ replicate n b
+shown-filled zero c b is = refl
+shown-filled (suc n) c b is = ap (λ x. x ∷ shown_of (replicate n c ++ [])) (ap is_shown is ∙ shown-colour b) ∙ ap (λ bs. b ∷ bs) (shown-filled n c b is)
+
+pub shown-appended : (xs : List ℕ) (end c n : ℕ) (b : Bool) → end ≡ length xs → c ≡ colour_of b → shown_of (inserted xs end c n) ≡ shown_of xs ++ replicate n b
+unfolding inserted
+shown-appended [] zero c n b at is = shown-filled n c b is
+shown-appended [] (suc end) c n b at is = absurd (omega (arith, at))
+shown-appended (x ∷ xs) zero c n b at is = absurd (omega (arith, at))
+shown-appended (x ∷ xs) (suc end) c n b at is = ap (λ bs. is_shown x ∷ bs) (shown-appended xs end c n b (omega (arith, at)) is)
+
+below-filled : (n c : ℕ) → c < 2 → AllBelow 2 (replicate n c ++ [])
+below-filled zero c below = tt
+below-filled (suc n) c below = (below, below-filled n c below)
+
+pub below-appended : (xs : List ℕ) (end c n : ℕ) → end ≡ length xs → c < 2 → AllBelow 2 xs → AllBelow 2 (inserted xs end c n)
+unfolding inserted
+below-appended [] zero c n at below all = below-filled n c below
+below-appended [] (suc end) c n at below all = absurd (omega (arith, at))
+below-appended (x ∷ xs) zero c n at below all = absurd (omega (arith, at))
+below-appended (x ∷ xs) (suc end) c n at below all = (all.0, below-appended xs end c n (omega (arith, at)) below all.1)
+
 -- what the value says of the colours
 pub record Held (value : Bars) (held : Colours) : Type 0 where
   pub shown : shown_of held.colours ≡ value.shown
@@ -159,6 +215,7 @@ pub record Held (value : Bars) (held : Colours) : Type 0 where
   pub len : length held.colours ≡ length value.shown
   pub spared : colours.spare held ≡ spare value
   pub count : count_among 2 held.colours ≡ count_shown value.shown
+  pub hidden : count_among 1 held.colours ≡ count_hidden value.shown
 
 pub held_is : (held : Colours) (value : Bars) → AllBelow 2 held.colours → record { shown = shown_of held.colours; room = held.room } ≡ value → Held value held
 held_is held value all is =
@@ -170,6 +227,7 @@ held_is held value all is =
       len = sym (length-shown held.colours) ∙ ap length shown_is;
       spared = omega (arith, room_is, stretches held.colours all, ap stretch_count shown_is);
       count = count-shown held.colours all ∙ ap count_shown shown_is;
+      hidden = count-hidden held.colours all ∙ ap count_hidden shown_is;
     }
 
 pub has_room : (held : Colours) (value : Bars) (outcome : List ℕ) (bars : List Bool) → Held value held → AllBelow 2 outcome → shown_of outcome ≡ bars → HasRoom value bars → colours.HasRoom held outcome

@@ -1,5 +1,5 @@
-ghost use Rattle.std.specs.Prelude.{◌≡◌, ◌+◌, ◌^◌, ◌<◌, ◌≤◌, ◌↔◌, [], length, take, insert, remove, slice_get, slice_set, Some, OnOk, OnErr, IsSome, IfSome};
-ghost use Rattle.gl_barcode.specs.Bars.{count_shown, spare, HasRoom, IsKthShown};
+ghost use Rattle.std.specs.Prelude.{◌≡◌, ◌+◌, ◌++◌, ◌^◌, ◌<◌, ◌≤◌, ◌↔◌, [], length, take, replicate, insert, remove, slice_get, slice_set, Some, OnOk, OnErr, IsSome, IfSome};
+ghost use Rattle.gl_barcode.specs.Bars.{count_shown, count_hidden, spare, HasRoom, IsKthShown, IsKthHidden};
 ghost use Rattle.gl_barcode.specs.Held.{colour_of};
 
 use gl_fourcolour::Runs;
@@ -8,6 +8,9 @@ use std::marker::Model;
 
 // The set of the one colour that is shown.
 const SHOWN: u8 = 0b10;
+
+// The set of the one colour that is hidden.
+const HIDDEN: u8 = 0b01;
 
 /// A list that says of each place whether it is shown: the Barcode of Glazed Lists.
 ///
@@ -86,6 +89,14 @@ impl Barcode {
         self.runs.select(k, SHOWN)
     }
 
+    /// The place that is hidden and has k hidden places before it, `None` where no more than k are hidden.
+    pub fn select_hidden(&self, k: usize) -> Option<usize>
+        ensures some { IsSome result ↔ (k < count_hidden self.now.shown) }
+        ensures place { IfSome result (IsKthHidden k self.now.shown) }
+    {
+        self.runs.select(k, HIDDEN)
+    }
+
     /// Makes room for so many edits, which then take no memory.
     pub fn reserve(&mut self, edits: usize) -> Result<(), AllocError>
         ensures ok { OnOk result (edits ≤ spare self.new) }
@@ -105,6 +116,18 @@ impl Barcode {
     {
         self.reserve(1)?;
         self.insert_reserved(at, shown);
+        Ok(())
+    }
+
+    /// Puts so many places in at the end, all shown or all hidden, in one edit. It takes memory where there is no room.
+    pub fn append(&mut self, shown: bool, n: usize) -> Result<(), AllocError>
+        requires { length self.old.shown + n < 2 ^ 32 }
+        ensures ok { OnOk result (self.new.shown ≡ self.old.shown ++ replicate n shown) }
+        ensures err { OnErr result (self.new.shown ≡ self.old.shown) }
+        ensures room { self.old.room ≤ self.new.room }
+    {
+        let end = self.runs.len();
+        self.runs.insert(end, colour_of(shown), n)?;
         Ok(())
     }
 

@@ -8,6 +8,7 @@ use Rattle.std.proofs.lemmas.Option.{slice_get_past}
 use Rattle.std.proofs.Math.Numerals.{add-one}
 use Rattle.spec_lists.specs.Piece.{Piece, kept, updated, deleted, inserted, identity, old_len}
 use Rattle.spec_lists.specs.Cells.{Cell, keep, update, delete, insert, keep_first, cells_of, pieces_in}
+use Rattle.spec_lists.proofs.Counting.{changed_len-identity}
 use Rattle.spec_lists.specs.Changes.{changed_len, after_changes}
 use Rattle.gl_fourcolour.specs.Colours.{is_among, IsKth}
 use Rattle.gl_delta.specs.Store.{colour_of}
@@ -22,10 +23,6 @@ changed_few (deleted v ∷ ps) = omega (arith, changed_few ps)
 changed_few (inserted w ∷ ps) = omega (arith, changed_few ps)
 
 -- no piece is changed exactly where all are kept
-changed_len-identity : (n : ℕ) → changed_len (identity n) ≡ 0
-changed_len-identity zero = refl
-changed_len-identity (suc n) = changed_len-identity n
-
 pub unchanged_is : (ps : List Piece) → changed_len ps ≡ 0 → ps ≡ identity (old_len ps)
 unchanged_is [] e = refl
 unchanged_is (kept ∷ ps) e = ap (λ qs. kept ∷ qs) (unchanged_is ps e)

@@ -93,39 +93,22 @@ normal_back [] a h = h
 normal_back (p ∷ b) a h = normal_back b a (normal_rest p (b ++ a) h)
 
 -- a deletion moved in front of the insertions before it: the normal form is the same
-normal_pass : (ins a : List Piece) (v : Tree) → AllInserted ins → normal (ins ++ deleted v ∷ a) ≡ deleted v ∷ normal (ins ++ a)
+pub normal_pass : (ins a : List Piece) (v : Tree) → AllInserted ins → normal (ins ++ deleted v ∷ a) ≡ deleted v ∷ normal (ins ++ a)
 normal_pass [] a v h = refl
 normal_pass (kept ∷ ins) a v h = absurd h
 normal_pass (updated x y ∷ ins) a v h = absurd h
 normal_pass (deleted x ∷ ins) a v h = absurd h
 normal_pass (inserted w ∷ ins) a v h = ap (insert_first w) (normal_pass ins a v h)
 
-normal_same : (b p q : List Piece) → normal p ≡ normal q → normal (b ++ p) ≡ normal (b ++ q)
+pub normal_same : (b p q : List Piece) → normal p ≡ normal q → normal (b ++ p) ≡ normal (b ++ q)
 normal_same [] p q e = e
 normal_same (kept ∷ b) p q e = ap (λ ps. kept ∷ ps) (normal_same b p q e)
 normal_same (updated v w ∷ b) p q e = ap (λ ps. updated v w ∷ ps) (normal_same b p q e)
 normal_same (deleted v ∷ b) p q e = ap (λ ps. deleted v ∷ ps) (normal_same b p q e)
 normal_same (inserted w ∷ b) p q e = ap (insert_first w) (normal_same b p q e)
 
-pub normal_move : (b ins a : List Piece) (v : Tree) → AllInserted ins → normal (b ++ (deleted v ∷ (ins ++ a))) ≡ normal (b ++ (ins ++ deleted v ∷ a))
-normal_move b ins a v h = normal_same b _ _ (sym (normal_pass ins a v h))
-
-ends_more : (b : List Piece) (u v : Tree) → IsNormal (b ++ deleted u ∷ []) → IsNormal ((b ++ deleted u ∷ []) ++ deleted v ∷ [])
-ends_more [] u v h = tt
-ends_more (kept ∷ b) u v h = ends_more b u v h
-ends_more (updated x y ∷ b) u v h = ends_more b u v h
-ends_more (deleted x ∷ b) u v h = ends_more b u v h
-ends_more (inserted x ∷ []) u v h = absurd h.0
-ends_more (inserted x ∷ kept ∷ b) u v h = (tt, ends_more (kept ∷ b) u v h.1)
-ends_more (inserted x ∷ updated s t ∷ b) u v h = (tt, ends_more (updated s t ∷ b) u v h.1)
-ends_more (inserted x ∷ deleted s ∷ b) u v h = absurd h.0
-ends_more (inserted x ∷ inserted s ∷ b) u v h = (tt, ends_more (inserted s ∷ b) u v h.1)
-
-pub EndsUninserted-more : (b : List Piece) (u : Tree) → EndsUninserted b → EndsUninserted (b ++ deleted u ∷ [])
-EndsUninserted-more b u h v = ends_more b u v (h u)
-
 -- insertions between two parts in normal form, of which the second doesn't begin with a deletion
-normal_ins : (ins a : List Piece) → AllInserted ins → BeginsUndeleted a → IsNormal a → BeginsUndeleted (ins ++ a) × IsNormal (ins ++ a)
+pub normal_ins : (ins a : List Piece) → AllInserted ins → BeginsUndeleted a → IsNormal a → BeginsUndeleted (ins ++ a) × IsNormal (ins ++ a)
 normal_ins [] a h u n = (u, n)
 normal_ins (kept ∷ ins) a h u n = absurd h
 normal_ins (updated x y ∷ ins) a h u n = absurd h
@@ -145,9 +128,6 @@ normal_undeleted (inserted w ∷ b) a h u n = (first b h.0, normal_undeleted b a
     first (updated x y ∷ c) g = tt
     first (deleted x ∷ c) g = g
     first (inserted x ∷ c) g = tt
-
-pub normal_joined : (b ins a : List Piece) → IsNormal b → AllInserted ins → BeginsUndeleted a → IsNormal a → IsNormal (b ++ (ins ++ a))
-normal_joined b ins a h i u n = let g = normal_ins ins a i u n in normal_undeleted b (ins ++ a) h g.0 g.1
 
 -- where the front part may be followed by a deletion, all is in normal form
 pub normal_closed : (b a : List Piece) → EndsUninserted b → IsNormal a → IsNormal (b ++ a)

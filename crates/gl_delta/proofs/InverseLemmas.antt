@@ -2,6 +2,7 @@
 use Rattle.std.proofs.Common.{◌≡◌, ◌∙◌, ℕ, ◌*◌, ◌-◌, ◌≤◌, List, [], ◌∷◌, map, refl, ap, sym, subst, suc, arith}
 use Rattle.spec_value.specs.Tree.{Tree}
 use Rattle.spec_lists.specs.Piece.{Piece, kept, updated, deleted, inserted, turned, old_len, normal, insert_first, IsNormal, BeginsUndeleted}
+use Rattle.spec_lists.proofs.Counting.{changed_len-normal}
 use Rattle.spec_lists.specs.Changes.{changed_len}
 use Rattle.spec_lists.specs.Delta.{inverse}
 use Rattle.spec_lists.proofs.Normal.{turned-turned, old_len-normal, new_len-normal, IsNormal-normal}
@@ -56,20 +57,6 @@ new_normal (updated v w ∷ ps) = ap (λ vs. w ∷ vs) (new_normal ps)
 new_normal (deleted v ∷ ps) = new_normal ps
 new_normal (inserted w ∷ ps) = new_first w (normal ps) ∙ ap (λ vs. w ∷ vs) (new_normal ps)
 
-changed_first : (w : Tree) (ps : List Piece) → changed_len (insert_first w ps) ≡ suc (changed_len ps)
-changed_first w [] = refl
-changed_first w (kept ∷ ps) = refl
-changed_first w (updated v x ∷ ps) = refl
-changed_first w (deleted v ∷ ps) = ap suc (changed_first w ps)
-changed_first w (inserted x ∷ ps) = refl
-
-changed_normal : (ps : List Piece) → changed_len (normal ps) ≡ changed_len ps
-changed_normal [] = refl
-changed_normal (kept ∷ ps) = changed_normal ps
-changed_normal (updated v w ∷ ps) = ap suc (changed_normal ps)
-changed_normal (deleted v ∷ ps) = ap suc (changed_normal ps)
-changed_normal (inserted w ∷ ps) = changed_first w (normal ps) ∙ ap suc (changed_normal ps)
-
 undeleted : (ps : List Piece) → BeginsUndeleted ps → NotDeleted (map colour_of ps)
 undeleted [] h = tt
 undeleted (kept ∷ ps) h = tt
@@ -97,7 +84,7 @@ turned_stored cs ds vs ws room ps s colours same = record {
   old_room = s.new_room;
   new_room = s.old_room;
   run_room = omega (arith, s.run_room, same);
-  within = omega (arith, changed_normal (map turned ps), changed_turned ps, s.within);
+  within = omega (arith, changed_len-normal (map turned ps), changed_turned ps, s.within);
 }
 
 pub kept_turned : (ps qs : List Piece) (olds news : ℕ) → IsKept ps olds news → qs ≡ normal (map turned ps) → IsKept qs news olds

@@ -5,6 +5,7 @@ use Rattle.spec_lists.specs.Piece.{Piece, old_len, new_len, identity, IsNormal, 
 use Rattle.spec_lists.specs.Delta.{one_insert, one_set, one_remove}
 use Rattle.spec_lists.specs.Cells.{pieces_in}
 use Rattle.spec_lists.proofs.Normal.{old_len-normal, new_len-normal}
+use Rattle.spec_lists.proofs.Editing.{identity_normal}
 use Rattle.spec_lists.proofs.Changing.{old_len-append, new_len-append}
 use Rattle.spec_lists.proofs.Lengths.{old_len-composed, new_len-composed, old_len-identity, new_len-identity, old_len-one_insert, new_len-one_insert, old_len-one_set, new_len-one_set, old_len-one_remove, new_len-one_remove}
 use Rattle.gl_delta.specs.declared.cell.Cell.{Cell}
@@ -24,10 +25,6 @@ begins_kept : (n : ℕ) → BeginsUndeleted (identity n)
 begins_kept zero = tt
 begins_kept (suc n) = tt
 
-normal_identity : (n : ℕ) → IsNormal (identity n)
-normal_identity zero = tt
-normal_identity (suc n) = normal_identity n
-
 pub kept_identity : (ps : List Piece) (len : ℕ) → ps ≡ identity len → len ≤ 2147483647 → IsKept ps len len
 kept_identity ps len e h =
     let P : List Piece → Type 0 = λ qs. IsKept qs len len in
@@ -36,7 +33,7 @@ kept_identity ps len e h =
       news_is = sym (new_len-identity len);
       olds_few = h;
       news_few = h;
-      normal = normal_identity len;
+      normal = identity_normal len;
     })
 
 pub kept_inserted : (ps qs : List Piece) (olds news at : ℕ) (v : Tree) → IsKept ps olds news → IsComposed ps (one_insert (new_len ps) at v) qs → at ≤ new_len ps → new_len ps + 1 ≤ 2147483647 → IsKept qs olds (news + 1)
@@ -67,7 +64,7 @@ kept_pushed ps qs x olds news olds' news' k p e f g h =
     record { olds_is = omega (arith, o, e, k.olds_is); news_is = omega (arith, n, f, k.news_is); olds_few = omega (arith, e, k.olds_is, g); news_few = omega (arith, f, k.news_is, h); normal = p.normal }
 
 pub normal_keep : (ps : List Piece) (n : ℕ) → IsNormal ps → IsNormal (ps ++ identity n)
-normal_keep ps n h = normal_undeleted ps (identity n) h (begins_kept n) (normal_identity n)
+normal_keep ps n h = normal_undeleted ps (identity n) h (begins_kept n) (identity_normal n)
 
 pub kept_more : (ps qs : List Piece) (olds news n : ℕ) → IsKept ps olds news → qs ≡ ps ++ identity n → old_len ps + old_len (identity n) ≤ 2147483647 → new_len ps + new_len (identity n) ≤ 2147483647 → IsKept qs (olds + n) (news + n)
 kept_more ps qs olds news n k e f g =

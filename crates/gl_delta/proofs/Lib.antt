@@ -9,6 +9,7 @@ pub mod RankedLemmas
 pub mod StoreLemmas
 pub mod RankLemmas
 pub mod PutLemmas
+pub mod MoveLemmas
 pub mod CellLemmas
 pub mod OldLemmas
 pub mod PlainLemmas

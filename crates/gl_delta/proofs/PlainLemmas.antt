@@ -1,109 +1,78 @@
--- Elements with an equal partner, counted and found among cells.
-use Rattle.std.proofs.Common.{◌≡◌, ◌∙◌, ℕ, zero, suc, ◌+◌, ◌-◌, ◌<◌, ◌≤◌, List, [], ◌∷◌, ◌++◌, length, take, drop, min, nat_lt, if◌then◌else◌, Bool, true, false, Option, Some, None, option_map, slice_get, refl, ap, sym, arith}
+-- Elements with an equal partner, counted and found by the kept pieces.
+use Rattle.std.proofs.Common.{◌≡◌, ◌∙◌, ℕ, zero, suc, ◌+◌, ◌-◌, ◌<◌, ◌≤◌, List, [], ◌∷◌, ◌++◌, length, take, drop, min, nat_lt, Bool, true, false, Option, Some, None, option_map, slice_get, refl, ap, sym, arith}
 use Rattle.std.proofs.lemmas.Bool.Decides.{nat_tests}
-use Rattle.std.proofs.lemmas.List.{length-append, length-drop, length-take-le}
+use Rattle.std.proofs.lemmas.List.{length-append, length-drop, length-take-le, take_all}
 use Rattle.spec_value.specs.Tree.{Tree}
 use Rattle.spec_lists.specs.Piece.{Piece, kept, updated, deleted, inserted, new_len}
 use Rattle.spec_lists.specs.Sides.{Item, plain, changed, lone, news}
-use Rattle.spec_lists.specs.Cells.{Cell, keep, update, delete, insert, keep_first, cells_of}
+use Rattle.gl_delta.specs.declared.mark.Side.TheVariants.{New}
+use Rattle.gl_delta.specs.Marks.{IsSelected}
 use Rattle.gl_delta.specs.Part.{plain_values, plain_len, plain_place}
-use Rattle.gl_delta.specs.Plain.{new_count, plain_before_in, plain_place_in}
+use Rattle.gl_delta.specs.Plain.{kept_len}
 
-pub none_before : (cs : List Cell) → plain_before_in 0 cs ≡ 0
-none_before [] = refl
-none_before (keep n ∷ cs) = let e : 0 - n ≡ 0 = omega arith in let m : min 0 n ≡ 0 = omega arith in omega (arith, m, ap (λ k. plain_before_in k cs) e, none_before cs)
-none_before (update v w ∷ cs) = none_before cs
-none_before (delete v ∷ cs) = none_before cs
-none_before (insert w ∷ cs) = none_before cs
+-- the kept pieces before a place are the elements below it that have an equal partner
+counts_plain : (ps : List Piece) (place i : ℕ) → kept_len (take place ps) ≡ plain_len (take (new_len (take place ps)) (news i ps))
+counts_plain ps zero i = refl
+counts_plain [] (suc place) i = refl
+counts_plain (kept ∷ ps) (suc place) i = ap suc (counts_plain ps place (suc i))
+counts_plain (updated v w ∷ ps) (suc place) i = counts_plain ps place (suc i)
+counts_plain (deleted v ∷ ps) (suc place) i = counts_plain ps place (suc i)
+counts_plain (inserted w ∷ ps) (suc place) i = counts_plain ps place i
 
--- one kept element in front
-before_more : (at : ℕ) (cs : List Cell) → plain_before_in (suc at) (keep_first cs) ≡ suc (plain_before_in at cs)
-before_more at [] = omega arith
-before_more at (keep n ∷ cs) = let e : suc at - suc n ≡ at - n = omega arith in omega (arith, ap (λ k. plain_before_in k cs) e)
-before_more at (update v w ∷ cs) = let e : suc at - 1 ≡ at = omega arith in omega (arith, ap (λ k. plain_before_in k (update v w ∷ cs)) e)
-before_more at (delete v ∷ cs) = let e : suc at - 1 ≡ at = omega arith in omega (arith, ap (λ k. plain_before_in k (delete v ∷ cs)) e)
-before_more at (insert w ∷ cs) = let e : suc at - 1 ≡ at = omega arith in omega (arith, ap (λ k. plain_before_in k (insert w ∷ cs)) e)
+length-news : (ps : List Piece) (i : ℕ) → length (news i ps) ≡ new_len ps
+length-news [] i = refl
+length-news (kept ∷ ps) i = ap suc (length-news ps (suc i))
+length-news (updated v w ∷ ps) i = ap suc (length-news ps (suc i))
+length-news (deleted v ∷ ps) i = length-news ps (suc i)
+length-news (inserted w ∷ ps) i = ap suc (length-news ps i)
 
-pub before_is : (ps : List Piece) (at i : ℕ) → plain_before_in at (cells_of ps) ≡ plain_len (take at (news i ps))
-before_is ps zero i = none_before (cells_of ps)
-before_is [] (suc at) i = refl
-before_is (kept ∷ ps) (suc at) i = before_more at (cells_of ps) ∙ ap suc (before_is ps at (suc i))
-before_is (updated v w ∷ ps) (suc at) i = let e : suc at - 1 ≡ at = omega arith in ap (λ k. plain_before_in k (cells_of ps)) e ∙ before_is ps at (suc i)
-before_is (deleted v ∷ ps) (suc at) i = before_is ps (suc at) (suc i)
-before_is (inserted w ∷ ps) (suc at) i = let e : suc at - 1 ≡ at = omega arith in ap (λ k. plain_before_in k (cells_of ps)) e ∙ before_is ps at i
+kept_few : (ps : List Piece) → kept_len ps ≤ new_len ps
+kept_few [] = omega arith
+kept_few (kept ∷ ps) = omega (arith, kept_few ps)
+kept_few (updated v w ∷ ps) = omega (arith, kept_few ps)
+kept_few (deleted v ∷ ps) = omega (arith, kept_few ps)
+kept_few (inserted w ∷ ps) = omega (arith, kept_few ps)
 
-places : (i j k l : ℕ) (cs : List Cell) → i ≡ j → k ≡ l → plain_place_in i k cs ≡ plain_place_in j l cs
-places i j k l cs e f = cc
+-- what is below a place, or all where that many aren't there
+at_most : (n : ℕ) (xs : List Item) → take (min n (length xs)) xs ≡ take n xs
+at_most n xs = by_test (nat_lt n (length xs)) refl
+  where
+    by_test : (b : Bool) → nat_lt n (length xs) ≡ b → take (min n (length xs)) xs ≡ take n xs
+    by_test true e = let less : n < length xs = grind (arith, nat_tests) in let m : min n (length xs) ≡ n = omega (arith, less) in ap (λ k. take k xs) m
+    by_test false e =
+        let past : length xs ≤ n = grind (arith, nat_tests) in
+        let m : length xs ≤ min n (length xs) = omega (arith, past) in
+        take_all (min n (length xs)) xs m ∙ sym (take_all n xs past)
 
-lt_suc : (k n : ℕ) → nat_lt (suc k) (suc n) ≡ nat_lt k n
-lt_suc k n = grind (arith, nat_tests)
+pub before_few : (ps : List Piece) (at k place : ℕ) → k ≡ min at (new_len ps) → IsSelected New ps k place → kept_len (take place ps) ≤ at
+before_few ps at k place h s = let m : min at (new_len ps) ≤ at = omega arith in omega (arith, h, m, s.before, kept_few (take place ps))
 
-lt_true : (k n : ℕ) → k < n → nat_lt k n ≡ true
-lt_true k n h = grind (arith, nat_tests, h)
+pub before_is : (ps : List Piece) (at k place : ℕ) → k ≡ min at (new_len ps) → IsSelected New ps k place → kept_len (take place ps) ≡ plain_len (take at (news 0 ps))
+before_is ps at k place e s =
+    let n : new_len (take place ps) ≡ min at (length (news 0 ps)) = s.before ∙ (e ∙ ap (min at) (sym (length-news ps 0))) in
+    counts_plain ps place 0 ∙ ap plain_len (ap (λ i. take i (news 0 ps)) n ∙ at_most at (news 0 ps))
 
-lt_false : (k n : ℕ) → n ≤ k → nat_lt k n ≡ false
-lt_false k n h = grind (arith, nat_tests, h)
+-- a kept piece is an element that has an equal partner
+pub place_is : (ps : List Piece) (k found i : ℕ) → slice_get ps found ≡ Some kept → kept_len (take found ps) ≡ k → plain_place (news i ps) k ≡ Some (new_len (take found ps))
+place_is [] k found i got e = cc
+place_is (kept ∷ ps) zero zero i got e = refl
+place_is (kept ∷ ps) (suc k) zero i got e = absurd (omega (arith, e))
+place_is (updated v w ∷ ps) k zero i got e = cc
+place_is (deleted v ∷ ps) k zero i got e = cc
+place_is (inserted w ∷ ps) k zero i got e = cc
+place_is (kept ∷ ps) zero (suc found) i got e = absurd (omega (arith, e))
+place_is (kept ∷ ps) (suc k) (suc found) i got e = ap (option_map suc) (place_is ps k found (suc i) got (omega (arith, e)))
+place_is (updated v w ∷ ps) k (suc found) i got e = ap (option_map suc) (place_is ps k found (suc i) got e)
+place_is (deleted v ∷ ps) k (suc found) i got e = place_is ps k found (suc i) got e
+place_is (inserted w ∷ ps) k (suc found) i got e = ap (option_map suc) (place_is ps k found i got e)
 
-chosen : (b c : Bool) (x y u v : Option ℕ) → b ≡ c → x ≡ u → y ≡ v → (if b then x else y) ≡ (if c then u else v)
-chosen b c x y u v e f g = cc
-
-pub place_here : (at k n : ℕ) (cs : List Cell) → k < n → plain_place_in at k (keep n ∷ cs) ≡ Some (at + k)
-place_here at k n cs h = ap (λ b. if b then Some (at + k) else plain_place_in (at + n) (k - n) cs) (lt_true k n h)
-
-pub place_past : (at k n : ℕ) (cs : List Cell) → n ≤ k → plain_place_in at k (keep n ∷ cs) ≡ plain_place_in (at + n) (k - n) cs
-place_past at k n cs h = ap (λ b. if b then Some (at + k) else plain_place_in (at + n) (k - n) cs) (lt_false k n h)
-
-place_first : (at : ℕ) (cs : List Cell) → plain_place_in at 0 (keep_first cs) ≡ Some at
-place_first at [] = place_here at 0 1 [] (omega arith) ∙ ap Some (omega arith)
-place_first at (keep n ∷ cs) = place_here at 0 (suc n) cs (omega arith) ∙ ap Some (omega arith)
-place_first at (update v w ∷ cs) = place_here at 0 1 (update v w ∷ cs) (omega arith) ∙ ap Some (omega arith)
-place_first at (delete v ∷ cs) = place_here at 0 1 (delete v ∷ cs) (omega arith) ∙ ap Some (omega arith)
-place_first at (insert w ∷ cs) = place_here at 0 1 (insert w ∷ cs) (omega arith) ∙ ap Some (omega arith)
-
-place_more : (at k : ℕ) (cs : List Cell) → plain_place_in at (suc k) (keep_first cs) ≡ plain_place_in (suc at) k cs
-place_more at k [] = place_past at (suc k) 1 [] (omega arith)
-place_more at k (keep n ∷ cs) = chosen _ _ _ _ _ _ (lt_suc k n) (ap Some (omega arith)) (places _ _ _ _ cs (omega arith) (omega arith))
-place_more at k (update v w ∷ cs) = place_past at (suc k) 1 (update v w ∷ cs) (omega arith) ∙ places (at + 1) (suc at) (suc k - 1) k (update v w ∷ cs) (omega arith) (omega arith)
-place_more at k (delete v ∷ cs) = place_past at (suc k) 1 (delete v ∷ cs) (omega arith) ∙ places (at + 1) (suc at) (suc k - 1) k (delete v ∷ cs) (omega arith) (omega arith)
-place_more at k (insert w ∷ cs) = place_past at (suc k) 1 (insert w ∷ cs) (omega arith) ∙ places (at + 1) (suc at) (suc k - 1) k (insert w ∷ cs) (omega arith) (omega arith)
-
--- a place counted from so many elements on
-abbrev from_place : ℕ → Option ℕ → Option ℕ
-from_place at None = None
-from_place at (Some i) = Some (at + i)
-
-one_on : (at : ℕ) (o : Option ℕ) → from_place (suc at) o ≡ from_place at (option_map suc o)
-one_on at None = refl
-one_on at (Some i) = ap Some (omega arith)
-
-place_is : (ps : List Piece) (at k i : ℕ) → plain_place_in at k (cells_of ps) ≡ from_place at (plain_place (news i ps) k)
-place_is [] at k i = refl
-place_is (kept ∷ ps) at zero i = place_first at (cells_of ps) ∙ ap Some (omega arith)
-place_is (kept ∷ ps) at (suc k) i = place_more at k (cells_of ps) ∙ (place_is ps (suc at) k (suc i) ∙ one_on at (plain_place (news (suc i) ps) k))
-place_is (updated v w ∷ ps) at k i = places (at + 1) (suc at) k k (cells_of ps) (omega arith) refl ∙ (place_is ps (suc at) k (suc i) ∙ one_on at (plain_place (news (suc i) ps) k))
-place_is (deleted v ∷ ps) at k i = place_is ps at k (suc i)
-place_is (inserted w ∷ ps) at k i = places (at + 1) (suc at) k k (cells_of ps) (omega arith) refl ∙ (place_is ps (suc at) k i ∙ one_on at (plain_place (news i ps) k))
-
-from_first : (o : Option ℕ) → from_place 0 o ≡ o
-from_first None = refl
-from_first (Some i) = ap Some (omega arith)
-
-pub found_is : (ps : List Piece) (k : ℕ) → plain_place_in 0 k (cells_of ps) ≡ plain_place (news 0 ps) k
-found_is ps k = place_is ps 0 k 0 ∙ from_first (plain_place (news 0 ps) k)
-
-new_first : (cs : List Cell) → new_count (keep_first cs) ≡ suc (new_count cs)
-new_first [] = refl
-new_first (keep n ∷ cs) = omega arith
-new_first (update v w ∷ cs) = omega arith
-new_first (delete v ∷ cs) = omega arith
-new_first (insert w ∷ cs) = omega arith
-
-pub new_count-cells : (ps : List Piece) → new_count (cells_of ps) ≡ new_len ps
-new_count-cells [] = refl
-new_count-cells (kept ∷ ps) = new_first (cells_of ps) ∙ ap suc (new_count-cells ps)
-new_count-cells (updated v w ∷ ps) = omega (arith, new_count-cells ps)
-new_count-cells (deleted v ∷ ps) = new_count-cells ps
-new_count-cells (inserted w ∷ ps) = omega (arith, new_count-cells ps)
+pub no_place : (ps : List Piece) (k i : ℕ) → kept_len ps ≤ k → plain_place (news i ps) k ≡ None
+no_place [] k i h = refl
+no_place (kept ∷ ps) zero i h = absurd (omega (arith, h))
+no_place (kept ∷ ps) (suc k) i h = ap (option_map suc) (no_place ps k (suc i) (omega (arith, h)))
+no_place (updated v w ∷ ps) k i h = ap (option_map suc) (no_place ps k (suc i) h)
+no_place (deleted v ∷ ps) k i h = no_place ps k (suc i) h
+no_place (inserted w ∷ ps) k i h = ap (option_map suc) (no_place ps k i h)
 
 -- an element with an equal partner, from a place on, is found in the whole list by its number there
 abbrev pub at_place : List Tree → Option ℕ → Option Tree
@@ -225,9 +194,3 @@ part_length xs ys upto h =
       few = omega (arith, n, m, l, h);
       is = length-append (take upto ys) (plain_values (drop upto xs) (drop upto ys)) ∙ omega (arith, n, t);
     }
-
-pub before_here : (left n : ℕ) (cs : List Cell) → left ≤ n → plain_before_in left (keep n ∷ cs) ≡ left
-before_here left n cs h =
-    let e : left - n ≡ 0 = omega (arith, h) in
-    let m : min left n ≡ left = omega (arith, h) in
-    omega (arith, m, ap (λ k. plain_before_in k cs) e, none_before cs)

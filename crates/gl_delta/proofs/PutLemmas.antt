@@ -8,6 +8,7 @@ use Rattle.spec_value.specs.Tree.{Tree}
 use Rattle.spec_lists.specs.Piece.{Piece, kept, updated, deleted, inserted, identity}
 use Rattle.spec_lists.specs.Cells.{update, delete, insert as insert_cell, cells_of}
 use Rattle.spec_lists.specs.Changes.{changed_len}
+use Rattle.spec_lists.proofs.Counting.{changed_len-append, changed_len-identity}
 use Rattle.gl_fourcolour.specs.Colours.{Colours, HasRoom, count_among, inserted as put_in, removed as cut_out}
 use Rattle.gl_delta.specs.Listed.{Listed}
 use Rattle.gl_delta.specs.Marks.{kind_of}
@@ -18,7 +19,7 @@ use Rattle.gl_delta.specs.Pieces.{is_kept_piece}
 use Rattle.gl_delta.proofs.CellLemmas.{changed_few}
 use Rattle.gl_delta.proofs.CutLemmas.{cut_at}
 use Rattle.gl_delta.proofs.RankLemmas.{counts_with_old, counts_with_new, ranked, kind_colour, colour_at, fits}
-use Rattle.gl_delta.proofs.StoreLemmas.{stored_again, told_at, colours_put, colours_cut, colours_more, colours_len, old_splits, new_splits, old_values-append, new_values-append, values_put, values_cut, changed_put, changed_cut, changed_len-append, old_few, new_few}
+use Rattle.gl_delta.proofs.StoreLemmas.{stored_again, told_at, colours_put, colours_cut, colours_more, colours_len, old_splits, new_splits, old_values-append, new_values-append, values_put, values_cut, changed_put, changed_cut, old_few, new_few}
 
 one_changed : (x : Piece) → changed_len (x ∷ []) ≤ 1
 one_changed kept = omega arith
@@ -212,10 +213,6 @@ none_new : (n : ℕ) → new_values (identity n) ≡ []
 none_new zero = refl
 none_new (suc n) = none_new n
 
-none_changed : (n : ℕ) → changed_len (identity n) ≡ 0
-none_changed zero = refl
-none_changed (suc n) = none_changed n
-
 pub more_kept : (cs ds : Colours) (vs ws : Listed) (room : ℕ) (ps : List Piece) (at n : ℕ) → IsStored cs vs ws room ps → at ≡ length cs.colours → ds.colours ≡ put_in cs.colours at 0 n → cs.room ≤ ds.room → IsStored ds vs ws room (ps ++ identity n)
 more_kept cs ds vs ws room ps at n s e colours more = record {
   colours_are = colours ∙ (ap (λ zs. put_in zs at 0 n) s.colours_are ∙ colours_more ps at n (e ∙ colours_len cs.colours ps s.colours_are));
@@ -224,7 +221,7 @@ more_kept cs ds vs ws room ps at n s e colours more = record {
   old_room = s.old_room;
   new_room = s.new_room;
   run_room = omega (arith, s.run_room, more);
-  within = omega (arith, changed_len-append ps (identity n), none_changed n, s.within);
+  within = omega (arith, changed_len-append ps (identity n), changed_len-identity n, s.within);
 }
 
 -- colours that are as they were, with more room

@@ -1,6 +1,6 @@
 -- Ranks and selects among the colours of pieces.
 use Rattle.std.proofs.Common.{◌≡◌, ◌∙◌, ℕ, zero, suc, ◌+◌, ◌-◌, ◌*◌, ◌<◌, ◌≤◌, List, [], ◌∷◌, length, map, take, drop, refl, ap, sym, subst, arith, IsTrue, inr}
-use Rattle.std.specs.Prelude.{Some, cond, true, false, Bool, nat_lt, slice_index, slice_get}
+use Rattle.std.specs.Prelude.{◌↔◌, Option, Some, None, IsSome, IfSome, MatchOption, cond, true, false, Bool, nat_lt, slice_index, slice_get}
 use Rattle.std.proofs.lemmas.Bool.Decides.{nat_tests}
 use Rattle.std.proofs.lemmas.List.{take-map, take_all, drop_all}
 use Rattle.spec_lists.specs.Piece.{Piece, kept, updated, deleted, inserted, old_len, new_len}
@@ -9,6 +9,7 @@ use Rattle.gl_fourcolour.specs.Colours.{Colours, run_count, begins_with, is_amon
 use Rattle.gl_delta.specs.Marks.{side_len, BeginsOn, IsSelected, kind_of}
 use Rattle.gl_delta.specs.declared.mark.Side.{Side}
 use Rattle.gl_delta.specs.declared.mark.Side.TheVariants.{Old, New}
+use Rattle.gl_delta.specs.Plain.{kept_len, IsKeptAt}
 use Rattle.gl_delta.specs.Store.{colour_of, kind_by, mask_of, old_values, new_values}
 
 -- each set of colours counts what its pieces are
@@ -36,6 +37,14 @@ counts_changed (updated v w ∷ ps) = omega (arith, counts_changed ps)
 counts_changed (deleted v ∷ ps) = omega (arith, counts_changed ps)
 counts_changed (inserted w ∷ ps) = omega (arith, counts_changed ps)
 
+pub counts_kept : (ps : List Piece) → count_among 1 (map colour_of ps) ≡ kept_len ps
+unfolding count_among is_among
+counts_kept [] = refl
+counts_kept (kept ∷ ps) = omega (arith, counts_kept ps)
+counts_kept (updated v w ∷ ps) = omega (arith, counts_kept ps)
+counts_kept (deleted v ∷ ps) = omega (arith, counts_kept ps)
+counts_kept (inserted w ∷ ps) = omega (arith, counts_kept ps)
+
 pub counts_with_old : (ps : List Piece) → count_among 6 (map colour_of ps) ≡ length (old_values ps)
 unfolding count_among is_among
 counts_with_old [] = refl
@@ -59,6 +68,9 @@ counts_side New ps = counts_new ps
 -- a rank counts the pieces before a place
 pub ranked : (mask : ℕ) (f : List Piece → ℕ) → ((qs : List Piece) → count_among mask (map colour_of qs) ≡ f qs) → (cs : List ℕ) (ps : List Piece) (at : ℕ) → cs ≡ map colour_of ps → count_among mask (take at cs) ≡ f (take at ps)
 ranked mask f counts cs ps at e = ap (λ xs. count_among mask (take at xs)) e ∙ (ap (count_among mask) (take-map colour_of at ps) ∙ counts (take at ps))
+
+pub ranked_by : (side : Side) (cs : List ℕ) (ps : List Piece) (at i mask : ℕ) → cs ≡ map colour_of ps → mask ≡ mask_of side → i ≡ count_among mask (take at cs) → i ≡ side_len side (take at ps)
+ranked_by side cs ps at i mask e f g = g ∙ (ap (λ m. count_among m (take at cs)) f ∙ ranked (mask_of side) (side_len side) (counts_side side) cs ps at e)
 
 pub counted : (mask : ℕ) (f : List Piece → ℕ) → ((qs : List Piece) → count_among mask (map colour_of qs) ≡ f qs) → (cs : List ℕ) (ps : List Piece) → cs ≡ map colour_of ps → count_among mask cs ≡ f ps
 counted mask f counts cs ps e = ap (count_among mask) e ∙ counts ps
@@ -140,6 +152,32 @@ selected_end side ps k place e f =
       before = ap (side_len side) all ∙ sym f;
       here = subst B (sym (drop_all place ps (omega (arith, e)))) (begins_none side);
     }
+
+-- the place of a kept piece
+kept_colour : (p : Piece) → IsTrue (is_among 1 (colour_of p)) → Some p ≡ Some kept
+unfolding is_among
+kept_colour kept h = refl
+kept_colour (updated v w) h = absurd (cc)
+kept_colour (deleted v) h = absurd (cc)
+kept_colour (inserted w) h = absurd (cc)
+
+kept_there : (ps : List Piece) (at : ℕ) → at < length ps → IsTrue (is_among 1 (slice_index (map colour_of ps) at)) → slice_get ps at ≡ Some kept
+kept_there [] at w h = absurd (omega (arith, w))
+kept_there (p ∷ ps) zero w h = kept_colour p h
+kept_there (p ∷ ps) (suc at) w h = kept_there ps at (omega (arith, w)) h
+
+pub kept_place : (cs : List ℕ) (ps : List Piece) (k place : ℕ) → cs ≡ map colour_of ps → IsKth 1 k cs place → IsKeptAt ps k place
+kept_place cs ps k place e h =
+    let P : List ℕ → Type 0 = λ xs. IsKth 1 k xs place in
+    let g : IsKth 1 k (map colour_of ps) place = subst P e h in
+    record {
+      got = kept_there ps place (omega (arith, g.in_range, length-map_colours ps)) g.among;
+      before = sym (ranked 1 kept_len counts_kept (map colour_of ps) ps place refl) ∙ g.before;
+    }
+
+pub kept_choice : (r : Option ℕ) (cs : List ℕ) (ps : List Piece) (k : ℕ) → cs ≡ map colour_of ps → IsSome r ↔ (k < count_among 1 cs) → IfSome r (IsKth 1 k cs) → MatchOption r (kept_len ps ≤ k) (IsKeptAt ps k)
+kept_choice None cs ps k e some kth = omega (arith, none_left k (count_among 1 cs) some, counted 1 kept_len counts_kept cs ps e)
+kept_choice (Some found) cs ps k e some kth = kept_place cs ps k found e kth
 
 -- pieces of which n are changed have at most 2 n + 1 runs
 abbrev pub kept_first : List Piece → ℕ

@@ -8,6 +8,7 @@ use Rattle.std.proofs.lemmas.Option.{same_Some}
 use Rattle.spec_value.specs.Tree.{Tree}
 use Rattle.spec_lists.specs.Piece.{Piece, kept, updated, deleted, inserted, turned, identity}
 use Rattle.spec_lists.specs.Changes.{changed_len}
+use Rattle.spec_lists.proofs.Counting.{changed_len-append}
 use Rattle.gl_fourcolour.specs.Colours.{Colours}
 use Rattle.gl_fourcolour.specs.Colours as colours
 use Rattle.gl_delta.specs.Listed.{Listed}
@@ -169,13 +170,6 @@ values_cut values told split join vs ws ys ps at i x e got f g within h =
     (r.0 ∙ sym (join (take at ps) (drop (suc at) ps)), r.1)
 
 -- how many changed pieces there are
-pub changed_len-append : (b a : List Piece) → changed_len (b ++ a) ≡ changed_len b + changed_len a
-changed_len-append [] a = omega arith
-changed_len-append (kept ∷ b) a = omega (arith, changed_len-append b a)
-changed_len-append (updated v w ∷ b) a = omega (arith, changed_len-append b a)
-changed_len-append (deleted v ∷ b) a = omega (arith, changed_len-append b a)
-changed_len-append (inserted w ∷ b) a = omega (arith, changed_len-append b a)
-
 changed_parts : (b a : List Piece) (x : Piece) → changed_len (b ++ x ∷ a) ≡ changed_len (b ++ a) + changed_len (x ∷ [])
 changed_parts b a x = omega (arith, changed_len-append b (x ∷ a), changed_len-append b a, changed_len-append (x ∷ []) a)
 

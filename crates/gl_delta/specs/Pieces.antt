@@ -1,5 +1,5 @@
 -- What the store of a delta holds.
-use Rattle.std.specs.Prelude.{◌≡◌, ◌-◌, ◌≤◌, ◌++◌, ℕ, List, [], ◌∷◌, length, drop, Bool, true, false, Option, Some, None, slice_get}
+use Rattle.std.specs.Prelude.{◌≡◌, ◌+◌, ◌-◌, ◌≤◌, ◌++◌, ℕ, List, [], ◌∷◌, length, drop, Bool, true, false, Option, Some, None, slice_get}
 use Rattle.spec_value.specs.Tree.{Tree}
 use Rattle.spec_lists.specs.Piece.{Piece, kept, updated, deleted, inserted, old_len, new_len, normal, identity, IsNormal}
 use Rattle.spec_lists.specs.Delta.{composed}
@@ -73,6 +73,30 @@ AllInserted (kept ∷ ps) = ⊥
 AllInserted (updated v w ∷ ps) = ⊥
 AllInserted (deleted v ∷ ps) = ⊥
 AllInserted (inserted w ∷ ps) = AllInserted ps
+
+abbrev pub AllDeleted : List Piece → Type 0
+AllDeleted [] = Unit {0}
+AllDeleted (kept ∷ ps) = ⊥
+AllDeleted (updated v w ∷ ps) = ⊥
+AllDeleted (deleted v ∷ ps) = AllDeleted ps
+AllDeleted (inserted w ∷ ps) = ⊥
+
+-- insertions stand from one place up to another, and behind them deletions up to a third
+pub record AreBehind (ps : List Piece) (to from end : ℕ) : Type 0 where
+  pub front : List Piece
+  pub insertions : List Piece
+  pub deletions : List Piece
+  pub rest : List Piece
+  pub is : ps ≡ front ++ (insertions ++ (deletions ++ rest))
+  pub to_is : to ≡ length front
+  pub from_is : from ≡ to + length insertions
+  pub end_is : end ≡ from + length deletions
+  pub are_inserted : AllInserted insertions
+  pub are_deleted : AllDeleted deletions
+
+-- the deletions before the insertions
+abbrev pub brought_forward : {ps : List Piece} {to from end : ℕ} → AreBehind ps to from end → List Piece
+brought_forward b = b.front ++ (b.deletions ++ (b.insertions ++ b.rest))
 
 -- a deletion may follow
 abbrev pub EndsUninserted : List Piece → Type 0

@@ -1,27 +1,16 @@
--- Kept elements counted and found among cells.
-use Rattle.std.specs.Prelude.{◌+◌, ◌-◌, ℕ, List, [], ◌∷◌, min, nat_lt, if◌then◌else◌, Option, Some, None}
-use Rattle.spec_lists.specs.Cells.{Cell, keep, update, delete, insert}
+-- Kept pieces, counted and found among all.
+use Rattle.std.specs.Prelude.{◌≡◌, ℕ, suc, List, [], ◌∷◌, take, Some, slice_get}
+use Rattle.spec_lists.specs.Piece.{Piece, kept, updated, deleted, inserted}
 
--- how many elements of the new list cells have
-abbrev pub new_count : List Cell → ℕ
-new_count [] = 0
-new_count (keep n ∷ cs) = n + new_count cs
-new_count (update v w ∷ cs) = 1 + new_count cs
-new_count (delete v ∷ cs) = new_count cs
-new_count (insert w ∷ cs) = 1 + new_count cs
+-- how many pieces are kept
+abbrev pub kept_len : List Piece → ℕ
+kept_len [] = 0
+kept_len (kept ∷ ps) = suc (kept_len ps)
+kept_len (updated v w ∷ ps) = kept_len ps
+kept_len (deleted v ∷ ps) = kept_len ps
+kept_len (inserted w ∷ ps) = kept_len ps
 
--- how many kept elements cells have below a place of the new list
-abbrev pub plain_before_in : ℕ → List Cell → ℕ
-plain_before_in at [] = 0
-plain_before_in at (keep n ∷ cs) = min at n + plain_before_in (at - n) cs
-plain_before_in at (update v w ∷ cs) = plain_before_in (at - 1) cs
-plain_before_in at (delete v ∷ cs) = plain_before_in at cs
-plain_before_in at (insert w ∷ cs) = plain_before_in (at - 1) cs
-
--- the place of a kept element by its number, where so many elements of the new list stand to the left of these cells
-abbrev pub plain_place_in : ℕ → ℕ → List Cell → Option ℕ
-plain_place_in at k [] = None
-plain_place_in at k (keep n ∷ cs) = if nat_lt k n then Some (at + k) else plain_place_in (at + n) (k - n) cs
-plain_place_in at k (update v w ∷ cs) = plain_place_in (at + 1) k cs
-plain_place_in at k (delete v ∷ cs) = plain_place_in at k cs
-plain_place_in at k (insert w ∷ cs) = plain_place_in (at + 1) k cs
+-- a place is that of a kept piece, before which stand so many other kept ones
+pub record IsKeptAt (ps : List Piece) (k place : ℕ) : Type 0 where
+  pub got : slice_get ps place ≡ Some kept
+  pub before : kept_len (take place ps) ≡ k

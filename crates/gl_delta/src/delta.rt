@@ -88,7 +88,7 @@ impl Delta {
         self.news
     }
 
-    /// Whether nothing changed.
+    /// Whether nothing changed, in constant time.
     pub fn is_identity(&self) -> bool
         ensures { IsTrue result ↔ (self.now.pieces ≡ identity (old_len self.now.pieces)) }
     {
@@ -114,7 +114,7 @@ impl Delta {
                 }
                 Err(failed) => Err((Cell::Keep(n), failed)),
             },
-            Cell::Update(v, w) => match push(&mut self.store, self.news, Changed::Updated(v, w)) {
+            Cell::Update(v, w) => match push(&mut self.store, Changed::Updated(v, w)) {
                 Ok(()) => {
                     self.olds += 1;
                     self.news += 1;
@@ -125,14 +125,14 @@ impl Delta {
                     Err((Cell::Update(v, w), failed))
                 }
             },
-            Cell::Delete(v) => match push(&mut self.store, self.news, Changed::Deleted(v)) {
+            Cell::Delete(v) => match push(&mut self.store, Changed::Deleted(v)) {
                 Ok(()) => {
                     self.olds += 1;
                     Ok(())
                 }
                 Err((change, failed)) => Err((Cell::Delete(first(change)), failed)),
             },
-            Cell::Insert(w) => match push(&mut self.store, self.news, Changed::Inserted(w)) {
+            Cell::Insert(w) => match push(&mut self.store, Changed::Inserted(w)) {
                 Ok(()) => {
                     self.news += 1;
                     Ok(())
@@ -204,8 +204,8 @@ impl Delta {
     }
 
     /// Composes the delta with one that leads on from its new list: it then leads from its old list to the new list
-    /// of the other. It takes no memory, but room that `reserve_for` made. The work follows the changes of the other
-    /// delta.
+    /// of the other. It takes no memory, but room that `reserve_for` made. Each change of the other delta takes time
+    /// logarithmic in the changes of both.
     pub fn absorb(&mut self, next: Delta)
         requires fits { old_len next.pieces ≡ new_len self.old.pieces }
         requires spare { changed_len self.old.pieces + cells_together self.old.pieces next.pieces ≤ self.old.room }
@@ -235,7 +235,7 @@ impl Delta {
         })
     }
 
-    /// How many elements aren't kept.
+    /// How many elements aren't kept, in constant time.
     pub fn changes(&self) -> usize
         ensures value { result ≡ changed_len self.now.pieces }
         ensures few { result ≤ 2 * MOST }

@@ -96,13 +96,8 @@ pub(crate) fn remove_at(
     Ok(())
 }
 
-/// A changed piece at the right end; a deletion before the insertions that stand there. `news` is the new length.
-pub(crate) fn push(
-    store: &mut Pieces,
-    news: usize,
-    change: Changed,
-) -> Result<(), (Changed, AllocError)>
-    requires news { news ≡ new_len (pieces store.old) }
+/// A changed piece at the right end; a deletion before the insertions that stand there.
+pub(crate) fn push(store: &mut Pieces, change: Changed) -> Result<(), (Changed, AllocError)>
     requires few { length (pieces store.old) + 1 ≤ 2 * MOST }
     requires normal { IsNormal (pieces store.old) }
     ensures ok { OnOk result (IsPushed (pieces store.old) (piece_of change) (pieces store.new)) }
@@ -113,10 +108,8 @@ pub(crate) fn push(
     if change.is_on(Side::New) {
         return store.append(change);
     }
-    let end = store.select(Side::New, news);
-    store.append(change)?;
-    settle(store, end);
-    Ok(())
+    let place = run_start(store, store.len());
+    store.put(place, change)
 }
 
 // A changed piece in place of a kept one.
@@ -150,17 +143,12 @@ pub(crate) fn settle(store: &mut Pieces, at: usize)
     ensures value { pieces store.new ≡ normal (pieces store.old) }
     ensures room { room store.old ≤ room store.new }
 {
-    let mut to = run_start(store, at);
+    let to = run_start(store, at);
     if to == at {
         return;
     }
-    let mut from = at;
-    'moves: while store.is_deleted(from) {
-        let change = store.take(from);
-        store.put_back(to, change);
-        to += 1;
-        from += 1;
-    }
+    let end = store.select(Side::New, store.rank(Side::New, at));
+    store.move_deleted(to, at, end);
 }
 
 // Where the insertions begin that end at a place.
@@ -171,11 +159,11 @@ fn run_start(store: &Pieces, end: usize) -> usize
     ensures run { AllInserted (take (end - result) (drop result (pieces store.now))) }
     ensures before { EndsUninserted (take result (pieces store.now)) }
 {
-    let mut start = end;
-    while start > 0 && store.is_inserted(start - 1) {
-        start -= 1;
+    let olds = store.rank(Side::Old, end);
+    if olds == 0 {
+        return 0;
     }
-    start
+    store.select(Side::Old, olds - 1) + 1
 }
 
 // The value of an insertion or a deletion, the old one of an update.

@@ -9,10 +9,14 @@ use gl_value::Value;
 /// The most elements that a delta has on one side.
 pub const MOST: usize = 2_147_483_647;
 
-/// The colour of kept pieces.
+/// The colours of kept pieces and of deleted ones.
 pub(crate) const KEPT: u8 = 0;
 
-/// The sets of colours, as masks: of the pieces that aren't kept, and of those that tell an old or a new value.
+pub(crate) const DELETED: u8 = 2;
+
+/// The sets of colours, as masks: of the kept pieces, of those that aren't, and of those that tell an old or a new value.
+pub(crate) const KEPT_ALONE: u8 = 0b0001;
+
 pub(crate) const CHANGED: u8 = 0b1110;
 
 pub(crate) const WITH_OLD: u8 = 0b0110;

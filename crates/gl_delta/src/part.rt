@@ -20,7 +20,7 @@ pub struct Part<'a, S: Shelf> {
 
 impl Delta {
     /// The part of the new list that has all elements below `upto`, and from there on those of a plain pair. It takes
-    /// no memory, and constant time. An element of it is found in the time of `plain_place`.
+    /// no memory, and constant time. An element of it is found in time logarithmic in the changes of the delta.
     pub fn part<'a, S: Shelf>(&'a self, new: &'a S, upto: usize) -> Part<'a, S>
         requires new { length (S.items new.now) ≡ new_len self.now.pieces }
         requires within { upto ≤ new_len self.now.pieces }

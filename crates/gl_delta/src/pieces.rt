@@ -1,20 +1,22 @@
 //! The pieces of a delta, edited one at a time: colours in runs, and beside them the values that pieces tell. What is kept
-//! takes no memory of its own, and each step takes time logarithmic in the changes.
+//! takes no memory of its own. Each edit and each question takes time logarithmic in the changes, however many pieces an
+//! edit moves.
 
-ghost use Rattle.std.specs.Prelude.{◌↔◌, IsTrue, ◌≡◌, ◌+◌, ◌*◌, ◌<◌, ◌≤◌, [], length, insert, remove, IfOk, IfErr, OnOk, OnErr, Some, false, slice_get, option_map, ◌++◌, ◌∷◌, drop, map};
+ghost use Rattle.std.specs.Prelude.{◌↔◌, IsTrue, ◌≡◌, ◌+◌, ◌*◌, ◌<◌, ◌≤◌, [], length, insert, remove, IfOk, IfErr, OnOk, OnErr, MatchOption, Some, false, slice_get, option_map, ◌++◌, ◌∷◌, take, drop, map};
 ghost use Rattle.spec_lists.specs.Piece.{Piece, kept, identity, old_len, normal, turned, IsNormal};
 ghost use Rattle.spec_lists.specs.Cells.{cells_of, pieces_in};
 ghost use Rattle.spec_lists.specs.Changes.{after_changes, changed_len};
 ghost use Rattle.spec_lists.specs.Sides.{olds};
 ghost use Rattle.gl_delta.specs.Old.{IsOldAt};
+ghost use Rattle.gl_delta.specs.Plain.{kept_len, IsKeptAt};
 ghost use Rattle.gl_delta.specs.Cells.{cells_rest, cell_ref};
 ghost use Rattle.gl_delta.specs.Marks.{piece_of, IsSelected, side_len, kind_of};
 ghost use Rattle.gl_delta.specs.declared.mark.TheConstants.{MOST};
-ghost use Rattle.gl_delta.specs.Pieces.{pieces, room, is_kept_piece, is_inserted_piece, is_deleted_piece, IsNextChanged};
+ghost use Rattle.gl_delta.specs.Pieces.{pieces, room, is_kept_piece, is_inserted_piece, is_deleted_piece, brought_forward, AreBehind, IsNextChanged};
 
 use crate::cell::{CellRef, Old};
 use crate::cells::Cells;
-use crate::mark::{CHANGED, Changed, KEPT, Kind, Side, WITH_NEW, WITH_OLD};
+use crate::mark::{CHANGED, Changed, DELETED, KEPT, KEPT_ALONE, Kind, Side, WITH_NEW, WITH_OLD};
 use crate::ranked::Ranked;
 use crate::turn::turn;
 use crate::values::{put_values, take_values};
@@ -84,6 +86,29 @@ impl Pieces {
         }
     }
 
+    /// How many elements of one list stand before a place among the pieces.
+    pub(crate) fn rank(&self, side: Side, place: usize) -> usize
+        requires { place ≤ length (pieces self.now) }
+        ensures { result ≡ side_len side (take place (pieces self.now)) }
+    {
+        self.colours.rank(place, side.mask())
+    }
+
+    /// How many kept pieces stand before a place among the pieces.
+    pub(crate) fn kept_before(&self, place: usize) -> usize
+        requires { place ≤ length (pieces self.now) }
+        ensures { result ≡ kept_len (take place (pieces self.now)) }
+    {
+        self.colours.rank(place, KEPT_ALONE)
+    }
+
+    /// The place of a kept piece by its number among those, `None` where there are no more than so many.
+    pub(crate) fn kept_at(&self, k: usize) -> Option<usize>
+        ensures { MatchOption result (kept_len (pieces self.now) ≤ k) (IsKeptAt (pieces self.now) k) }
+    {
+        self.colours.select(k, KEPT_ALONE)
+    }
+
     /// What the piece at a place is, `None` behind the last one.
     pub(crate) fn kind(&self, place: usize) -> Option<Kind>
         ensures { result ≡ option_map kind_of (slice_get (pieces self.now) place) }
@@ -147,12 +172,13 @@ impl Pieces {
         if total <= self.room {
             return Ok(());
         }
-        let Some(edits) = total.checked_add(1) else {
+        // So many changed pieces, with kept ones between them, have one run more than twice as many.
+        let Some(runs) = total.checked_mul(2) else {
             return Err(AllocError);
         };
         self.olds.reserve(total)?;
         self.news.reserve(total)?;
-        self.colours.reserve(edits)?;
+        self.colours.reserve_runs(runs + 1)?;
         self.room = total;
         Ok(())
     }
@@ -236,6 +262,20 @@ impl Pieces {
         take_values(&mut self.olds, &mut self.news, old, new, kind)
     }
 
+    /// Moves the deletions up to `end` in front of the insertions before them, which begin at `to`. No value moves, since
+    /// deletions tell old values alone and insertions new ones alone. It takes no memory.
+    pub(crate) fn move_deleted(&mut self, to: usize, from: usize, end: usize)
+        requires behind { AreBehind (pieces self.old) to from end }
+        requires some { to < from }
+        requires few { length (pieces self.old) ≤ 2 * MOST }
+        ensures pieces { (b : AreBehind (pieces self.old) to from end) → pieces self.new ≡ brought_forward b }
+        ensures room { room self.new ≡ room self.old }
+    {
+        let deleted = end - from;
+        self.colours.remove(from, deleted);
+        self.colours.insert_reserved(to, DELETED, deleted);
+    }
+
     /// Whether all are kept.
     pub(crate) fn is_unchanged(&self) -> bool
         ensures { IsTrue result ↔ (pieces self.now ≡ identity (old_len (pieces self.now))) }
@@ -308,11 +348,11 @@ impl Pieces {
         }
     }
 
-    /// How many pieces aren't kept.
+    /// How many pieces aren't kept, in constant time.
     pub(crate) fn changes(&self) -> usize
         ensures { result ≡ changed_len (pieces self.now) }
     {
-        self.colours.rank(self.colours.len(), CHANGED)
+        self.colours.count(CHANGED)
     }
 
     /// The place of the first changed piece from a place on, or the number of pieces.

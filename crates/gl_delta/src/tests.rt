@@ -55,12 +55,12 @@ fn has(delta: &Delta, rows: &[Row]) -> bool {
     cells.next().is_none()
 }
 
-// A cell of one element pushed, where the lists stay short.
+// A cell of one element pushed.
 fn add(rt: &impl Abort, delta: &mut Delta, cell: Cell) -> Result<(), AllocError>
     requires olds { old_len (pieces_in (cell_of cell)) ≤ 1 }
     requires news { new_len (pieces_in (cell_of cell)) ≤ 1 }
 {
-    assert!(rt; delta.old_len() < 100 && delta.new_len() < 100);
+    assert!(rt; delta.old_len() < MOST && delta.new_len() < MOST);
     match delta.push(cell) {
         Ok(()) => Ok(()),
         Err((_cell, failed)) => Err(failed),
@@ -169,6 +169,54 @@ fn pushed_cells(rt: HostRuntime) -> Result<(), Fail> {
     assert!(rt; delta.old_len() == 2);
     assert!(rt; is_old(delta.old_at(0), Row::Delete(7)));
     assert!(rt; is_old(delta.old_at(1), Row::Keep(1)));
+    Ok(())
+}
+
+// Many deletions, each told behind all insertions so far: the work is no multiple of their number.
+#[test]
+fn many_pushed(rt: HostRuntime) -> Result<(), Fail> {
+    let mut delta = Delta::start(rt.alloc());
+    for _ in 0..30_000 {
+        push(&rt, &mut delta, Row::Insert(1))?;
+        push(&rt, &mut delta, Row::Delete(2))?;
+    }
+    assert!(rt; delta.changes() == 60_000);
+    let mut middle = delta.cells_from(29_999);
+    assert!(rt;
+        middle
+            .next()
+            .is_some_and(|cell| is_row(cell, Row::Delete(2)))
+    );
+    assert!(rt;
+        middle
+            .next()
+            .is_some_and(|cell| is_row(cell, Row::Insert(1)))
+    );
+    Ok(())
+}
+
+// Many elements removed behind as many that were inserted.
+#[test]
+fn many_removed(rt: HostRuntime) -> Result<(), Fail> {
+    let mut delta = Delta::identity(rt.alloc(), 15_000)?;
+    for _ in 0..15_000 {
+        record(&rt, &mut delta, Step::Insert(0, 1))?;
+    }
+    for _ in 0..15_000 {
+        record(&rt, &mut delta, Step::Remove(15_000, 2))?;
+    }
+    assert!(rt; delta.changes() == 30_000);
+    let mut middle = delta.cells_from(14_999);
+    assert!(rt;
+        middle
+            .next()
+            .is_some_and(|cell| is_row(cell, Row::Delete(2)))
+    );
+    assert!(rt;
+        middle
+            .next()
+            .is_some_and(|cell| is_row(cell, Row::Insert(1)))
+    );
     Ok(())
 }
 
@@ -313,6 +361,25 @@ fn parts(rt: HostRuntime) -> Result<(), Fail> {
         assert!(rt; new.len() == delta.new_len() && upto <= delta.new_len());
         assert!(rt; shows(&delta.part(&new, upto), items));
     }
+    Ok(())
+}
+
+// Many elements of a part of a long delta, each found by its number.
+#[test]
+fn part_of_many(rt: HostRuntime) -> Result<(), Fail> {
+    let mut delta = Delta::start(rt.alloc());
+    let mut all = Vec::new(rt.alloc());
+    let mut kept = Vec::new(rt.alloc());
+    for n in 0..6_000i64 {
+        push(&rt, &mut delta, Row::Update(n, 0))?;
+        push(&rt, &mut delta, Row::Keep(1))?;
+        all.push(0)?;
+        all.push(n)?;
+        kept.push(n)?;
+    }
+    let new = numbers(rt.alloc(), all.as_slice())?;
+    assert!(rt; new.len() == delta.new_len());
+    assert!(rt; shows(&delta.part(&new, 0), kept.as_slice()));
     Ok(())
 }
 

@@ -4,9 +4,8 @@ ghost use Rattle.std.specs.Prelude.{◌≡◌, ◌<◌, ◌≤◌, ◌*◌, ◌-
 ghost use Rattle.gl_fourcolour.specs.Colours.{count_among};
 ghost use Rattle.gl_delta.specs.Turns.{turned_colours, InOrder, Reached, Turning};
 
+use crate::mark::DELETED;
 use gl_fourcolour::Runs;
-
-const DELETED: u8 = 2;
 
 const INSERTED: u8 = 3;
 

@@ -1,14 +1,14 @@
 -- What the cells of a delta tell and make.
 use Rattle.std.proofs.Common.{◌≡◌, ◌∙◌, ℕ, suc, ◌+◌, List, [], ◌∷◌, ◌++◌, drop, refl, ap, sym, arith}
 use Rattle.spec_value.specs.Tree.{Tree}
-use Rattle.spec_lists.specs.Piece.{Piece, kept, updated, deleted, inserted, old_len}
+use Rattle.spec_lists.specs.Piece.{Piece, kept, updated, deleted, inserted, old_len, new_len}
 use Rattle.spec_lists.specs.Leads.{LeadsFrom, applied}
 use Rattle.spec_lists.specs.Cells.{Cell, keep, update, delete, insert, keep_first, cells_of}
 use Rattle.std.proofs.Common.{append_assoc}
 use Rattle.std.proofs.lemmas.List.{drop-drop}
 use Rattle.spec_lists.proofs.Replaying.{replay_gives_new_list}
 use Rattle.spec_lists.specs.Changes.{Change, changes_from, changes, replay, insertion, update as update_at}
-use Rattle.gl_event.specs.Changes.{changes_in}
+use Rattle.gl_event.specs.Changes.{changes_in, new_count}
 use Rattle.gl_event.specs.Replay.{applied_cells, old_count}
 
 changes_first : (at : ℕ) (cs : List Cell) → changes_in at (keep_first cs) ≡ changes_in (suc at) cs
@@ -84,3 +84,18 @@ deleted_more made xs whole from cs rest v e f =
 -- replay is what the delta makes of the list
 pub replay_is : (ps : List Piece) (xs : List Tree) → LeadsFrom ps xs → applied_cells (cells_of ps) xs ≡ replay (changes ps) xs
 replay_is ps xs h = applied_is ps xs h ∙ sym (replay_gives_new_list ps xs (applied ps xs) (record { starts = h; ends = refl }))
+
+new_first : (cs : List Cell) → new_count (keep_first cs) ≡ suc (new_count cs)
+new_first [] = refl
+new_first (keep n ∷ cs) = omega arith
+new_first (update v w ∷ cs) = omega arith
+new_first (delete v ∷ cs) = omega arith
+new_first (insert w ∷ cs) = omega arith
+
+-- the new list has as many elements as its cells
+pub new_count-cells : (ps : List Piece) → new_count (cells_of ps) ≡ new_len ps
+new_count-cells [] = refl
+new_count-cells (kept ∷ ps) = new_first (cells_of ps) ∙ ap suc (new_count-cells ps)
+new_count-cells (updated v w ∷ ps) = omega (arith, new_count-cells ps)
+new_count-cells (deleted v ∷ ps) = new_count-cells ps
+new_count-cells (inserted w ∷ ps) = omega (arith, new_count-cells ps)

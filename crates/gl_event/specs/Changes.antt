@@ -3,7 +3,6 @@ use Rattle.std.specs.Prelude.{◌+◌, ◌≤◌, ℕ, List, [], ◌∷◌}
 use Rattle.spec_lists.specs.Cells.{Cell, keep, update, delete, insert}
 use Rattle.spec_lists.specs.Changes.{Change, insertion, delete as delete_at, update as update_at}
 use Rattle.gl_delta.specs.Cells.{cells_rest}
-use Rattle.gl_delta.specs.Plain.{new_count}
 use Rattle.gl_event.specs.declared.change.Change.{Change as Told}
 use Rattle.gl_event.specs.declared.change.Change.TheVariants as told
 use Rattle.gl_event.specs.declared.walk.Walk.{Walk}
@@ -24,6 +23,14 @@ changes_in at (insert w ∷ cs) = insertion at w ∷ changes_in (at + 1) cs
 
 abbrev pub changes_rest : Walk → List Change
 changes_rest w = changes_in w.at (cells_rest w.cells)
+
+-- how many elements of the new list cells have
+abbrev pub new_count : List Cell → ℕ
+new_count [] = 0
+new_count (keep n ∷ cs) = n + new_count cs
+new_count (update v w ∷ cs) = 1 + new_count cs
+new_count (delete v ∷ cs) = new_count cs
+new_count (insert w ∷ cs) = 1 + new_count cs
 
 -- the new list has no more elements than a delta may have
 abbrev pub IsFew : Walk → Type 0

@@ -63,7 +63,7 @@ impl Event {
         self.delta.old_len()
     }
 
-    /// How many changes there are.
+    /// How many changes there are, in constant time.
     pub fn len(&self) -> usize
         ensures { result ≡ changed_len self.now.pieces }
     {

@@ -1,9 +1,9 @@
 -- What is told of another matcher.
-use Rattle.std.specs.Prelude.{◌≡◌, ℕ, zero, suc, ◌+◌, ◌-◌, ◌≤◌, Bool, true, false, List, [], ◌∷◌, ◌++◌, length, drop, map, slice_get, Some, refl}
+use Rattle.std.specs.Prelude.{◌≡◌, ℕ, suc, ◌+◌, ◌-◌, ◌≤◌, Bool, true, false, List, [], ◌∷◌, ◌++◌, length, take, drop, slice_get, Some, refl}
 use Rattle.std.proofs.Common.{ap, sym, ◌∙◌, arith}
+use Rattle.std.proofs.lemmas.List.{drop-drop, length-drop, length-take-le, take-append-drop}
 use Rattle.spec_value.specs.Tree.{Tree}
 use Rattle.spec_lists.specs.Piece.{Piece, kept, identity, old_len, new_len, normal}
-use Rattle.spec_lists.proofs.Normal.{old_len-normal, new_len-normal}
 use Rattle.spec_lang.specs.declared.EditKind.{EditKind}
 use Rattle.spec_lang.specs.declared.EditKind.TheVariants as kind_is
 use Rattle.spec_lang.specs.Matcher.{Matcher, accepts}
@@ -11,15 +11,15 @@ use Rattle.spec_lang.specs.Kind.{Says}
 use Rattle.spec_views.specs.Chosen.{told_of_pair, told_from}
 use Rattle.spec_views.specs.Filter.{by_value, filter_change}
 use Rattle.gl_barcode.specs.Bars.{count_shown}
-use Rattle.gl_kernel.specs.declared.edit.Edit.{Edit}
-use Rattle.gl_kernel.specs.declared.edit.Edit.TheVariants.{Set}
-use Rattle.gl_kernel.specs.Edits.{insertions, AreWithin, played}
-use Rattle.gl_kernel.specs.Fates.{Fate, outcome, spoken, edits_of}
+use Rattle.gl_kernel.specs.declared.log_step.LogStep.{LogStep}
+use Rattle.gl_kernel.specs.Fates.{edits_of}
 use Rattle.gl_kernel.specs.Plans.{CanTell}
-use Rattle.gl_kernel.proofs.Spreading.{told_olds, told_news}
-use Rattle.gl_kernel.proofs.Fating.{fates_played, fates_within}
-use Rattle.gl_filter.specs.Told.{told_change, switch, switches, SaysHere, question, questions, change_cost}
-use Rattle.gl_filter.proofs.Showing.{count-cons, count-none, drop_at}
+use Rattle.gl_kernel.proofs.Pairing.{pair-append, pair_olds, pair_news}
+use Rattle.gl_kernel.proofs.Reading.{drop_at}
+use Rattle.gl_kernel.proofs.Spreading.{can_tell_whole, told_more, steps_more}
+use Rattle.gl_filter.specs.Told.{told_change, switch, switches, SaysHere, questions, change_cost}
+use Rattle.gl_filter.proofs.Showing.{count-cons, count-none}
+use Rattle.gl_filter.proofs.Marking.{spoken-switches}
 
 change_told : (before after : Tree → Bool) (i j : ℕ) (xs : List Tree) → told_from (by_value before) (by_value after) i j xs (identity (length xs)) ≡ told_change before after xs
 change_told before after i j [] = refl
@@ -28,110 +28,67 @@ change_told before after i j (x ∷ xs) = ap (told_of_pair (before x) (after x) 
 pub change_is : (before after : Tree → Bool) (xs : List Tree) → normal (told_change before after xs) ≡ filter_change before after xs
 change_is before after xs = ap normal (sym (change_told before after 0 0 xs))
 
-pair-append : (b c : Bool) (x : Tree) (r : List Piece) → told_of_pair b c kept x x r ≡ told_of_pair b c kept x x [] ++ r
-pair-append true true x r = refl
-pair-append true false x r = refl
-pair-append false true x r = refl
-pair-append false false x r = refl
-
-drop_tree : (xs : List Tree) (i : ℕ) (x : Tree) → slice_get xs i ≡ Some x → drop i xs ≡ x ∷ drop (i + 1) xs
-drop_tree xs i x e = let next : suc i ≡ i + 1 = omega arith in dropped xs i x e ∙ ap (λ k. x ∷ drop k xs) next
-  where
-    dropped : (ys : List Tree) (k : ℕ) (y : Tree) → slice_get ys k ≡ Some y → drop k ys ≡ y ∷ drop (suc k) ys
-    dropped [] zero y f = cc
-    dropped [] (suc k) y f = cc
-    dropped (z ∷ ys) zero y f = first z y ys f
-      where
-        first : (a b : Tree) (zs : List Tree) → Some a ≡ Some b → a ∷ zs ≡ b ∷ zs
-        first a b zs g = cc
-    dropped (z ∷ ys) (suc k) y f = dropped ys k y f
-
--- one element more: what is left to tell is split
-pub change_split : (before after : Tree → Bool) (xs : List Tree) (i : ℕ) (x : Tree) (out whole : List Piece) → slice_get xs i ≡ Some x → normal (out ++ told_change before after (drop i xs)) ≡ whole →
-    normal (out ++ (told_of_pair (before x) (after x) kept x x [] ++ told_change before after (drop (i + 1) xs))) ≡ whole
-change_split before after xs i x out whole e h =
-    ap (λ ps. normal (out ++ ps)) (sym (ap (told_change before after) (drop_tree xs i x e) ∙ pair-append (before x) (after x) x (told_change before after (drop (i + 1) xs)))) ∙ h
-
-pub switch_split : (before after : Tree → Bool) (xs : List Tree) (i : ℕ) (x : Tree) (log : List (Edit Bool)) (whole : List (Edit Bool)) → slice_get xs i ≡ Some x → log ++ edits_of i (switches before after (drop i xs)) ≡ whole →
-    log ++ edits_of i (switch (before x) (after x) ∷ switches before after (drop (i + 1) xs)) ≡ whole
-switch_split before after xs i x log whole e h = ap (λ fs. log ++ edits_of i fs) (sym (ap (switches before after) (drop_tree xs i x e))) ∙ h
-
--- the edits for the first element, and then those for the others
-pub edits_first : (b c : Bool) (i : ℕ) (fs : List (Fate Bool)) → edits_of i (switch b c ∷ fs) ≡ edits_of i (switch b c ∷ []) ++ edits_of (i + 1) fs
-edits_first true true i fs = let next : suc i ≡ i + 1 = omega arith in ap (λ k. edits_of k fs) next
-edits_first true false i fs = let next : suc i ≡ i + 1 = omega arith in ap (λ k. Set i false ∷ edits_of k fs) next
-edits_first false true i fs = let next : suc i ≡ i + 1 = omega arith in ap (λ k. Set i true ∷ edits_of k fs) next
-edits_first false false i fs = let next : suc i ≡ i + 1 = omega arith in ap (λ k. edits_of k fs) next
-
-pub drop_all : (xs : List Tree) (i : ℕ) → length xs ≤ i → drop i xs ≡ []
-drop_all [] zero h = refl
-drop_all [] (suc i) h = refl
-drop_all (x ∷ xs) zero h = absurd (omega (arith, h))
-drop_all (x ∷ xs) (suc i) h = drop_all xs i (omega (arith, h))
-
-pair_olds : (b c : Bool) (x : Tree) (r : List Piece) → old_len (told_of_pair b c kept x x r) ≤ suc (old_len r)
-pair_olds true true x r = omega arith
-pair_olds true false x r = omega arith
-pair_olds false true x r = omega arith
-pair_olds false false x r = omega arith
-
-pair_news : (b c : Bool) (x : Tree) (r : List Piece) → new_len (told_of_pair b c kept x x r) ≤ suc (new_len r)
-pair_news true true x r = omega arith
-pair_news true false x r = omega arith
-pair_news false true x r = omega arith
-pair_news false false x r = omega arith
-
 change_olds : (before after : Tree → Bool) (xs : List Tree) → old_len (told_change before after xs) ≤ length xs
 change_olds before after [] = omega arith
-change_olds before after (x ∷ xs) = omega (arith, pair_olds (before x) (after x) x (told_change before after xs), change_olds before after xs)
+change_olds before after (x ∷ xs) = omega (arith, pair_olds (before x) (after x) kept x x (told_change before after xs), change_olds before after xs)
 
 change_news : (before after : Tree → Bool) (xs : List Tree) → new_len (told_change before after xs) ≤ length xs
 change_news before after [] = omega arith
-change_news before after (x ∷ xs) = omega (arith, pair_news (before x) (after x) x (told_change before after xs), change_news before after xs)
+change_news before after (x ∷ xs) = omega (arith, pair_news (before x) (after x) kept x x (told_change before after xs), change_news before after xs)
 
-pub can_tell_change : (before after : Tree → Bool) (xs : List Tree) (out told rest : List Piece) → length xs ≤ 2147483647 → normal (out ++ (told ++ rest)) ≡ normal (told_change before after xs) → CanTell told out
-can_tell_change before after xs out told rest h e = record {
-  olds = omega (arith, told_olds (normal (told_change before after xs)) out told rest e, old_len-normal (told_change before after xs), change_olds before after xs, h);
-  news = omega (arith, told_news (normal (told_change before after xs)) out told rest e, new_len-normal (told_change before after xs), change_news before after xs, h);
-}
+-- what is told of some elements, and then of the others
+change-append : (before after : Tree → Bool) (xs ys : List Tree) → told_change before after (xs ++ ys) ≡ told_change before after xs ++ told_change before after ys
+change-append before after [] ys = refl
+change-append before after (x ∷ xs) ys =
+    ap (told_of_pair (before x) (after x) kept x x) (change-append before after xs ys) ∙ pair-append (before x) (after x) kept x x (told_change before after xs) (told_change before after ys)
 
-switched : (b c : Bool) (bs : List Bool) (fs : List (Fate Bool)) → outcome (switch b c ∷ fs) (b ∷ bs) ≡ c ∷ outcome fs bs
-switched true true bs fs = refl
-switched true false bs fs = refl
-switched false true bs fs = refl
-switched false false bs fs = refl
+switches-append : (before after : Tree → Bool) (xs ys : List Tree) → switches before after (xs ++ ys) ≡ switches before after xs ++ switches before after ys
+switches-append before after [] ys = refl
+switches-append before after (x ∷ xs) ys = ap (λ fs. switch (before x) (after x) ∷ fs) (switches-append before after xs ys)
 
-switch_spoken : (b c : Bool) (fs : List (Fate Bool)) → spoken (switch b c ∷ fs) ≡ suc (spoken fs)
-switch_spoken true true fs = refl
-switch_spoken true false fs = refl
-switch_spoken false true fs = refl
-switch_spoken false false fs = refl
+questions-append : (kind : EditKind) (bs cs : List Bool) → questions kind (bs ++ cs) ≡ questions kind bs + questions kind cs
+questions-append kind [] cs = omega arith
+questions-append kind (b ∷ bs) cs = omega (arith, questions-append kind bs cs)
 
-outcome-switches : (before after : Tree → Bool) (xs : List Tree) → outcome (switches before after xs) (map before xs) ≡ map after xs
-outcome-switches before after [] = refl
-outcome-switches before after (x ∷ xs) =
-    switched (before x) (after x) (map before xs) (switches before after xs) ∙ ap (λ bs. after x ∷ bs) (outcome-switches before after xs)
+-- n elements from a place on, and then the others
+parts : {T : Type 0} (xs : List T) (place n : ℕ) → drop place xs ≡ take n (drop place xs) ++ drop (place + n) xs
+parts xs place n = sym (take-append-drop n (drop place xs)) ∙ ap (λ ys. take n (drop place xs) ++ ys) (drop-drop n place xs)
 
-spoken-switches : (before after : Tree → Bool) (xs : List Tree) → spoken (switches before after xs) ≡ length (map before xs)
-spoken-switches before after [] = refl
-spoken-switches before after (x ∷ xs) = switch_spoken (before x) (after x) (switches before after xs) ∙ ap suc (spoken-switches before after xs)
+pub first_of : {T : Type 0} (xs : List T) (place : ℕ) (x : T) → slice_get xs place ≡ Some x → take 1 (drop place xs) ≡ x ∷ []
+first_of xs place x e = ap (take 1) (drop_at xs place x e)
 
--- the edits lead from the old marks to the new ones
-pub switches_played : (before after : Tree → Bool) (xs : List Tree) → played (edits_of 0 (switches before after xs)) (map before xs) ≡ map after xs
-switches_played before after xs = fates_played (switches before after xs) [] (map before xs) 0 refl (spoken-switches before after xs) ∙ outcome-switches before after xs
+-- what is left to tell after n elements more, and that these can be told
+module _ (before after : Tree → Bool) (xs : List Tree) (place n : ℕ) where
+  told_split : (out whole : List Piece) → normal (out ++ told_change before after (drop place xs)) ≡ whole
+      → normal (out ++ (told_change before after (take n (drop place xs)) ++ told_change before after (drop (place + n) xs))) ≡ whole
+  told_split out whole h =
+      ap (λ ps. normal (out ++ ps)) (sym (ap (told_change before after) (parts xs place n) ∙ change-append before after (take n (drop place xs)) (drop (place + n) xs))) ∙ h
 
-pub switches_within : (before after : Tree → Bool) (xs : List Tree) → AreWithin (edits_of 0 (switches before after xs)) (map before xs)
-switches_within before after xs = fates_within (switches before after xs) [] (map before xs) 0 refl (spoken-switches before after xs)
+  pub walk_told : (out more whole : List Piece) (j : ℕ) → normal (out ++ told_change before after (drop place xs)) ≡ whole → more ≡ normal (out ++ told_change before after (take n (drop place xs))) → j ≡ place + n
+      → normal (more ++ told_change before after (drop j xs)) ≡ whole
+  walk_told out more whole j h g e =
+      ap (λ k. normal (more ++ told_change before after (drop k xs))) e
+      ∙ told_more whole out more (told_change before after (take n (drop place xs))) (told_change before after (drop (place + n) xs)) (told_split out whole h) g
 
-no_insertion : (b c : Bool) (i : ℕ) (fs : List (Fate Bool)) → insertions (edits_of (suc i) fs) ≡ 0 → insertions (edits_of i (switch b c ∷ fs)) ≡ 0
-no_insertion true true i fs e = e
-no_insertion true false i fs e = e
-no_insertion false true i fs e = e
-no_insertion false false i fs e = e
+  pub walk_can : (out : List Piece) → length xs ≤ 2147483647 → normal (out ++ told_change before after (drop place xs)) ≡ normal (told_change before after xs)
+      → CanTell (told_change before after (take n (drop place xs))) out
+  walk_can out h e =
+      can_tell_whole (told_change before after xs) out (told_change before after (take n (drop place xs))) (told_change before after (drop (place + n) xs))
+      (omega (arith, change_olds before after xs, h)) (omega (arith, change_news before after xs, h)) (told_split out (normal (told_change before after xs)) e)
 
-pub no_insertions : (before after : Tree → Bool) (i : ℕ) (xs : List Tree) → insertions (edits_of i (switches before after xs)) ≡ 0
-no_insertions before after i [] = refl
-no_insertions before after i (x ∷ xs) = no_insertion (before x) (after x) i (switches before after xs) (no_insertions before after (suc i) xs)
+  pub walk_edits : (log more whole : List (LogStep Bool)) (j : ℕ) → place + n ≤ length xs → log ++ edits_of place (switches before after (drop place xs)) ≡ whole
+      → more ≡ log ++ edits_of place (switches before after (take n (drop place xs))) → j ≡ place + n → more ++ edits_of j (switches before after (drop j xs)) ≡ whole
+  walk_edits log more whole j inside h g e =
+      let first = switches before after (take n (drop place xs)) in
+      let last = switches before after (drop (place + n) xs) in
+      let all = ap (switches before after) (parts xs place n) ∙ switches-append before after (take n (drop place xs)) (drop (place + n) xs) in
+      let count = length-take-le n (drop place xs) (omega (arith, inside, length-drop place xs)) in
+      ap (λ k. more ++ edits_of j (switches before after (drop k xs))) e
+      ∙ steps_more whole log more first last place j (ap (λ fs. log ++ edits_of place fs) (sym all) ∙ h) g
+      (e ∙ ap (λ k. place + k) (sym (spoken-switches before after (take n (drop place xs)) ∙ count)))
+
+pub walk_asked : (kind : EditKind) (bs : List Bool) (place n : ℕ) → questions kind (drop place bs) ≡ questions kind (take n (drop place bs)) + questions kind (drop (place + n) bs)
+walk_asked kind bs place n = ap (questions kind) (parts bs place n) ∙ questions-append kind (take n (drop place bs)) (drop (place + n) bs)
 
 -- what a kind says of all values it says of one
 pub says_here : (kind : EditKind) (old new : Matcher) (v : Tree) (was : Bool) → Says kind old new → was ≡ accepts old v → SaysHere kind was (accepts new v)
@@ -162,19 +119,3 @@ questions_are kind_is.Relaxed bs = hidden bs
     hidden (false ∷ cs) = omega (arith, count-cons false cs, few cs, hidden cs)
 questions_are kind_is.Changed [] = refl
 questions_are kind_is.Changed (b ∷ bs) = omega (arith, questions_are kind_is.Changed bs)
-
-drop_bool : (bs : List Bool) (i : ℕ) (b : Bool) → slice_get bs i ≡ Some b → drop i bs ≡ b ∷ drop (i + 1) bs
-drop_bool bs i b e = let next : suc i ≡ i + 1 = omega arith in drop_at bs i b e ∙ ap (λ k. b ∷ drop k bs) next
-
-pub question_split : (kind : EditKind) (bs : List Bool) (i : ℕ) (b : Bool) → slice_get bs i ≡ Some b → questions kind (drop i bs) ≡ question kind b + questions kind (drop (i + 1) bs)
-question_split kind bs i b e = ap (questions kind) (drop_bool bs i b e)
-
--- the mark of an element
-pub mark_at : (f : Tree → Bool) (xs : List Tree) (i : ℕ) (x : Tree) (b : Bool) → slice_get xs i ≡ Some x → slice_get (map f xs) i ≡ Some b → b ≡ f x
-mark_at f [] zero x b e h = cc
-mark_at f [] (suc i) x b e h = cc
-mark_at f (y ∷ xs) zero x b e h = first y e h
-  where
-    first : (z : Tree) → Some z ≡ Some x → Some (f z) ≡ Some b → b ≡ f x
-    first z p q = cc
-mark_at f (y ∷ xs) (suc i) x b e h = mark_at f xs i x b e h

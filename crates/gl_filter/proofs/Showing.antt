@@ -6,6 +6,7 @@ use Rattle.spec_value.specs.Tree.{Tree}
 use Rattle.spec_lists.specs.Piece.{kept, updated, deleted}
 use Rattle.spec_views.specs.Chosen.{told_of_pair, told_of_old}
 use Rattle.gl_barcode.specs.Bars.{count_shown, IsKthShown}
+use Rattle.gl_kernel.proofs.Reading.{drop_at}
 use Rattle.gl_filter.specs.Told.{told_kept, told_marks}
 
 pub count-cons : (b : Bool) (bs : List Bool) → count_shown (b ∷ bs) ≡ cond b 1 0 + count_shown bs
@@ -43,15 +44,6 @@ keeps_told accepts (suc n) (b ∷ bs) h =
     first : (c : Bool) (k : ℕ) → told_kept c (replicate k kept) ≡ replicate (cond c 1 0 + k) kept
     first true k = let e : suc k ≡ 1 + k = omega arith in ap (λ n. replicate n kept) e
     first false k = let e : k ≡ 0 + k = omega arith in ap (λ n. replicate n kept) e
-
-pub drop_at : (bs : List Bool) (i : ℕ) (b : Bool) → slice_get bs i ≡ Some b → drop i bs ≡ b ∷ drop (suc i) bs
-drop_at [] zero b e = cc
-drop_at [] (suc i) b e = cc
-drop_at (c ∷ bs) zero b e = first c b bs e
-  where
-    first : (x y : Bool) (ys : List Bool) → Some x ≡ Some y → x ∷ ys ≡ y ∷ ys
-    first x y ys f = cc
-drop_at (c ∷ bs) (suc i) b e = drop_at bs i b e
 
 -- an updated and a deleted element, by the mark at their place
 pub update_told : (accepts : Tree → Bool) (bs : List Bool) (i : ℕ) (b : Bool) (v w : Tree) → slice_get bs i ≡ Some b → told_marks accepts (drop i bs) (updated v w ∷ []) ≡ told_of_pair b (accepts w) (updated v w) v w []

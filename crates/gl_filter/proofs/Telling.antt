@@ -4,12 +4,12 @@ use Rattle.std.proofs.Common.{ap, sym, ◌∙◌, arith}
 use Rattle.spec_value.specs.Tree.{Tree}
 use Rattle.spec_lists.specs.Piece.{Piece, kept, updated, deleted, inserted, old_len, new_len, normal}
 use Rattle.spec_lists.specs.Leads.{LeadsFrom}
-use Rattle.spec_lists.proofs.Normal.{old_len-normal, new_len-normal}
 use Rattle.spec_views.specs.Chosen.{told_of_pair, told_of_old, told_of_new, told_from}
 use Rattle.spec_views.specs.Filter.{by_value, filter_follow}
 use Rattle.std.proofs.lemmas.List.{length-drop, drop-drop}
 use Rattle.gl_kernel.specs.Plans.{CanTell}
-use Rattle.gl_kernel.proofs.Spreading.{told_olds, told_news}
+use Rattle.gl_kernel.proofs.Spreading.{can_tell_whole}
+use Rattle.gl_kernel.proofs.Pairing.{pair-append, old-append, new-append, pair_olds, pair_news, old_olds, old_news, new_olds, new_news}
 use Rattle.gl_filter.specs.Told.{told_kept, told_marks, asked}
 
 kept_pair : (b : Bool) (x : Tree) (rest : List Piece) → told_of_pair b b kept x x rest ≡ told_kept b rest
@@ -37,20 +37,6 @@ told_is accepts i j (x ∷ xs) (inserted w ∷ ps) h = ap (told_of_new (accepts 
 pub follow_is : (accepts : Tree → Bool) (xs : List Tree) (ps : List Piece) → LeadsFrom ps xs → normal (told_marks accepts (map accepts xs) ps) ≡ filter_follow accepts xs ps
 follow_is accepts xs ps h = ap normal (sym (told_is accepts 0 0 xs ps h))
 
-pair-append : (b c : Bool) (p : Piece) (v w : Tree) (r s : List Piece) → told_of_pair b c p v w (r ++ s) ≡ told_of_pair b c p v w r ++ s
-pair-append true true p v w r s = refl
-pair-append true false p v w r s = refl
-pair-append false true p v w r s = refl
-pair-append false false p v w r s = refl
-
-old-append : (b : Bool) (v : Tree) (r s : List Piece) → told_of_old b v (r ++ s) ≡ told_of_old b v r ++ s
-old-append true v r s = refl
-old-append false v r s = refl
-
-new-append : (b : Bool) (w : Tree) (r s : List Piece) → told_of_new b w (r ++ s) ≡ told_of_new b w r ++ s
-new-append true w r s = refl
-new-append false w r s = refl
-
 kept-append : (b : Bool) (r s : List Piece) → told_kept b (r ++ s) ≡ told_kept b r ++ s
 kept-append true r s = refl
 kept-append false r s = refl
@@ -75,34 +61,6 @@ asked-append (updated v w ∷ ps) qs = omega (arith, asked-append ps qs)
 asked-append (deleted v ∷ ps) qs = asked-append ps qs
 asked-append (inserted w ∷ ps) qs = omega (arith, asked-append ps qs)
 
-pair_olds : (b c : Bool) (v w : Tree) (r : List Piece) → old_len (told_of_pair b c (updated v w) v w r) ≤ suc (old_len r)
-pair_olds true true v w r = omega arith
-pair_olds true false v w r = omega arith
-pair_olds false true v w r = omega arith
-pair_olds false false v w r = omega arith
-
-pair_news : (b c : Bool) (v w : Tree) (r : List Piece) → new_len (told_of_pair b c (updated v w) v w r) ≤ suc (new_len r)
-pair_news true true v w r = omega arith
-pair_news true false v w r = omega arith
-pair_news false true v w r = omega arith
-pair_news false false v w r = omega arith
-
-old_olds : (b : Bool) (v : Tree) (r : List Piece) → old_len (told_of_old b v r) ≤ suc (old_len r)
-old_olds true v r = omega arith
-old_olds false v r = omega arith
-
-old_news : (b : Bool) (v : Tree) (r : List Piece) → new_len (told_of_old b v r) ≡ new_len r
-old_news true v r = refl
-old_news false v r = refl
-
-new_olds : (b : Bool) (w : Tree) (r : List Piece) → old_len (told_of_new b w r) ≡ old_len r
-new_olds true w r = refl
-new_olds false w r = refl
-
-new_news : (b : Bool) (w : Tree) (r : List Piece) → new_len (told_of_new b w r) ≤ suc (new_len r)
-new_news true w r = omega arith
-new_news false w r = omega arith
-
 kept_olds : (b : Bool) (r : List Piece) → old_len (told_kept b r) ≤ suc (old_len r)
 kept_olds true r = omega arith
 kept_olds false r = omega arith
@@ -117,7 +75,7 @@ marks_olds accepts bs [] = omega arith
 marks_olds accepts [] (kept ∷ ps) = omega arith
 marks_olds accepts (b ∷ bs) (kept ∷ ps) = omega (arith, kept_olds b (told_marks accepts bs ps), marks_olds accepts bs ps)
 marks_olds accepts [] (updated v w ∷ ps) = omega arith
-marks_olds accepts (b ∷ bs) (updated v w ∷ ps) = omega (arith, pair_olds b (accepts w) v w (told_marks accepts bs ps), marks_olds accepts bs ps)
+marks_olds accepts (b ∷ bs) (updated v w ∷ ps) = omega (arith, pair_olds b (accepts w) (updated v w) v w (told_marks accepts bs ps), marks_olds accepts bs ps)
 marks_olds accepts [] (deleted v ∷ ps) = omega arith
 marks_olds accepts (b ∷ bs) (deleted v ∷ ps) = omega (arith, old_olds b v (told_marks accepts bs ps), marks_olds accepts bs ps)
 marks_olds accepts [] (inserted w ∷ ps) = omega (arith, new_olds (accepts w) w (told_marks accepts [] ps), marks_olds accepts [] ps)
@@ -128,17 +86,11 @@ marks_news accepts bs [] = omega arith
 marks_news accepts [] (kept ∷ ps) = omega arith
 marks_news accepts (b ∷ bs) (kept ∷ ps) = omega (arith, kept_news b (told_marks accepts bs ps), marks_news accepts bs ps)
 marks_news accepts [] (updated v w ∷ ps) = omega arith
-marks_news accepts (b ∷ bs) (updated v w ∷ ps) = omega (arith, pair_news b (accepts w) v w (told_marks accepts bs ps), marks_news accepts bs ps)
+marks_news accepts (b ∷ bs) (updated v w ∷ ps) = omega (arith, pair_news b (accepts w) (updated v w) v w (told_marks accepts bs ps), marks_news accepts bs ps)
 marks_news accepts [] (deleted v ∷ ps) = omega arith
 marks_news accepts (b ∷ bs) (deleted v ∷ ps) = omega (arith, old_news b v (told_marks accepts bs ps), marks_news accepts bs ps)
 marks_news accepts [] (inserted w ∷ ps) = omega (arith, new_news (accepts w) w (told_marks accepts [] ps), marks_news accepts [] ps)
 marks_news accepts (b ∷ bs) (inserted w ∷ ps) = omega (arith, new_news (accepts w) w (told_marks accepts (b ∷ bs) ps), marks_news accepts (b ∷ bs) ps)
-
-pub whole_olds : (accepts : Tree → Bool) (bs : List Bool) (ps : List Piece) → old_len (normal (told_marks accepts bs ps)) ≤ old_len ps
-whole_olds accepts bs ps = omega (arith, old_len-normal (told_marks accepts bs ps), marks_olds accepts bs ps)
-
-pub whole_news : (accepts : Tree → Bool) (bs : List Bool) (ps : List Piece) → new_len (normal (told_marks accepts bs ps)) ≤ new_len ps
-whole_news accepts bs ps = omega (arith, new_len-normal (told_marks accepts bs ps), marks_news accepts bs ps)
 
 pub asked-keeps : (n : ℕ) → asked (replicate n kept) ≡ 0
 asked-keeps zero = refl
@@ -153,7 +105,5 @@ whole_split accepts shown place qs rest out whole h e =
     ∙ (ap (λ ps. normal (out ++ ps)) (sym (told-append accepts (drop place shown) qs rest inside)) ∙ e)
 
 pub can_tell : (accepts : Tree → Bool) (shown : List Bool) (ps out told rest : List Piece) → old_len ps ≤ 2147483647 → new_len ps ≤ 2147483647 → normal (out ++ (told ++ rest)) ≡ normal (told_marks accepts shown ps) → CanTell told out
-can_tell accepts shown ps out told rest h k e = record {
-  olds = omega (arith, told_olds (normal (told_marks accepts shown ps)) out told rest e, whole_olds accepts shown ps, h);
-  news = omega (arith, told_news (normal (told_marks accepts shown ps)) out told rest e, whole_news accepts shown ps, k);
-}
+can_tell accepts shown ps out told rest h k e =
+    can_tell_whole (told_marks accepts shown ps) out told rest (omega (arith, marks_olds accepts shown ps, h)) (omega (arith, marks_news accepts shown ps, k)) e

@@ -1,22 +1,26 @@
-//! What a filter tells when it gets another matcher, and the edits of its marks.
+//! What a filter tells when it gets another matcher, and the steps that change its marks.
 
-ghost use Rattle.std.specs.Prelude.{◌≡◌, ◌+◌, ◌≤◌, ◌++◌, ◌∷◌, [], length, IfOk, OnOk};
-ghost use Rattle.spec_lists.specs.Piece.{normal};
+ghost use Rattle.std.specs.Prelude.{◌≡◌, ◌+◌, ◌-◌, ◌<◌, ◌≤◌, [], length, take, drop, IfOk, OnOk};
+ghost use Rattle.spec_lists.specs.Piece.{identity, normal};
 ghost use Rattle.spec_lang.specs.Matcher.{accepts};
 ghost use Rattle.spec_lang.specs.Kind.{Says};
 ghost use Rattle.gl_kernel.specs.Fates.{edits_of};
-ghost use Rattle.gl_filter.specs.Told.{told_change, switch, switches, SaysHere, question, questions};
+ghost use Rattle.gl_kernel.specs.Plans.{GoesOn, CanTell};
+ghost use Rattle.gl_filter.specs.Told.{told_change, switches, left_mark, shown_among, SaysHere, question, questions};
 ghost use Rattle.gl_filter.specs.Stands.{StandsFor};
 
 use crate::filter::Filter;
-use gl_kernel::{Edit, Plan, element, tell_kept};
+use crate::marks::{next_other, note};
+use gl_delta::Cell;
+use gl_kernel::{Plan, element, tell, tell_kept};
 use gl_lang::{EditKind, Matcher};
 use gl_value::{Shelf, Steps, Value};
 use std::alloc::{AllocError, Global};
 use std::sync::ledger::Ledger;
 
 impl Filter {
-    /// What is told of another matcher, and the edits of the marks.
+    /// What is told of another matcher, and the steps that change the marks. The elements that the kind leaves as they
+    /// are aren't read: their stretches are passed over in one step each.
     pub(crate) fn replan<S: Shelf, L: Ledger>(
         &self,
         alloc: Global,
@@ -34,17 +38,77 @@ impl Filter {
             ≡ edits_of 0 (switches (accepts self.now.matcher) (accepts param.now) (S.items input.now))) }
         ensures counted { steps.new ≤ steps.old + questions kind self.now.shown }
     {
+        let mark = left_mark(kind);
         let mut plan = Plan::new(alloc);
-        for place in 0..input.len() {
-            let v = element(input, place);
-            let was = self.marks.shown(place);
-            let is = decide(param, kind, was, v, steps);
-            tell_kept(&mut plan.out, was, is, v)?;
-            note(&mut plan.log, place, was, is)?;
+        'visited: while let Some(place) = next_other(&self.marks, mark, plan.place) {
+            pass(&mut plan, mark, place)?;
+            self.visit(param, kind, input, &mut plan, steps)?;
         }
-        let _normal = plan.out.old_len();
+        pass(&mut plan, mark, self.marks.len())?;
         Ok(plan)
     }
+
+    // What is told of one element, and the step that changes its mark.
+    fn visit<S: Shelf, L: Ledger>(
+        &self,
+        param: &Matcher,
+        kind: EditKind,
+        input: &S,
+        plan: &mut Plan<bool>,
+        steps: &mut Steps<L>,
+    ) -> Result<(), AllocError>
+        requires within { plan.old.place < length (S.items input.now) }
+        requires stands { StandsFor self.now (S.items input.now) }
+        requires says { Says kind self.now.matcher param.now }
+        requires few { length (S.items input.now) ≤ 2147483647 }
+        requires can { CanTell (told_change (accepts self.now.matcher) (accepts param.now)
+            (take 1 (drop plan.old.place (S.items input.now)))) plan.old.out.pieces }
+        ensures ok { OnOk result (GoesOn
+            (told_change (accepts self.now.matcher) (accepts param.now) (take 1 (drop plan.old.place (S.items input.now))))
+            (edits_of plan.old.place
+            (switches (accepts self.now.matcher) (accepts param.now) (take 1 (drop plan.old.place (S.items input.now)))))
+            1 plan.old plan.new) }
+        ensures counted { steps.new ≡ steps.old + questions kind (take 1 (drop plan.old.place self.now.shown)) }
+    {
+        let place = plan.place;
+        let v = element(input, place);
+        let was = self.marks.shown(place);
+        let is = decide(param, kind, was, v, steps);
+        tell_kept(&mut plan.out, was, is, v)?;
+        note(&mut plan.log, place, was, is)?;
+        plan.place += 1;
+        Ok(())
+    }
+}
+
+// The mark of the elements that a kind leaves as they are.
+fn left_mark(kind: EditKind) -> Option<bool>
+    ensures { result ≡ left_mark kind }
+{
+    match kind {
+        EditKind::All => Some(true),
+        EditKind::Nothing => Some(false),
+        EditKind::Constrained => Some(false),
+        EditKind::Relaxed => Some(true),
+        EditKind::Changed => None,
+    }
+}
+
+// Passes over the elements up to a place, which have this mark and keep it.
+fn pass(plan: &mut Plan<bool>, mark: Option<bool>, place: usize) -> Result<(), AllocError>
+    requires onward { plan.old.place ≤ place }
+    requires can { CanTell (identity (shown_among mark (place - plan.old.place))) plan.old.out.pieces }
+    ensures { OnOk result (GoesOn
+        (identity (shown_among mark (place - plan.old.place))) [] (place - plan.old.place) plan.old plan.new) }
+{
+    let shown = match mark {
+        Some(true) => place - plan.place,
+        Some(false) => 0,
+        None => 0,
+    };
+    tell(&mut plan.out, Cell::Keep(shown))?;
+    plan.place = place;
+    Ok(())
 }
 
 // Whether an element is accepted that was shown or not. The matcher is asked only where the kind leaves it open.
@@ -66,14 +130,4 @@ fn decide<L: Ledger>(
         EditKind::Relaxed => was || param.accepts(v, steps),
         EditKind::Changed => param.accepts(v, steps),
     }
-}
-
-// The edit of a mark, where it is another one.
-fn note(log: &mut Vec<Edit<bool>>, place: usize, was: bool, is: bool) -> Result<(), AllocError>
-    ensures { OnOk result (log.new.items ≡ log.old.items ++ edits_of place (switch was is ∷ [])) }
-{
-    if was != is {
-        log.push(Edit::Set(place, is))?;
-    }
-    Ok(())
 }

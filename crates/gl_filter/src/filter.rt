@@ -13,9 +13,10 @@ ghost use Rattle.gl_filter.specs.Told.{asked, change_cost};
 ghost use Rattle.gl_filter.specs.Stands.{StandsFor, contents, before, CanRetreat, IsUndo};
 
 use crate::follow::follow;
+use crate::marks::Marking;
 use gl_barcode::Barcode;
 use gl_delta::{Delta, Find};
-use gl_kernel::{Edit, apply, element, take_back};
+use gl_kernel::{LogStep, apply, element, take_back};
 use gl_lang::{EditKind, Matcher};
 use gl_value::{Shelf, Steps};
 use std::alloc::{AllocError, Global};
@@ -46,7 +47,7 @@ impl Model for Filter {
 #[derive(Drop)]
 pub struct FilterUndo {
     pub(crate) matcher: Option<Matcher>,
-    pub(crate) log: Vec<Edit<bool>>,
+    pub(crate) log: Vec<LogStep<bool>>,
 }
 
 impl Filter {
@@ -62,15 +63,15 @@ impl Filter {
         ensures matcher { IfOk result (λ filter. filter.matcher ≡ param) }
         ensures counted { steps.new ≤ steps.old + length (S.items input.now) }
     {
-        let mut marks = Barcode::new(alloc);
+        let mut marking = Marking::new(alloc);
         for place in 0..input.len() {
             let shown = param.accepts(element(input, place), steps);
-            marks.insert(place, shown)?;
+            marking.push(shown)?;
         }
         Ok(Filter {
             alloc,
             matcher: param,
-            marks,
+            marks: marking.finish()?,
         })
     }
 
@@ -149,7 +150,9 @@ impl Filter {
 
     /// How many elements are shown.
     pub fn len(&self) -> usize
-        ensures { (xs : List Tree) → StandsFor self.now xs → result ≡ length (filter_view (accepts self.now.matcher) xs) }
+        ensures view { (xs : List Tree) → StandsFor self.now xs
+            → result ≡ length (filter_view (accepts self.now.matcher) xs) }
+        ensures len { result ≡ count_shown self.now.shown }
     {
         self.marks.shown_len()
     }

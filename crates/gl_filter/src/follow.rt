@@ -1,17 +1,18 @@
 //! What a filter tells of a change of its list, and the edits of its marks.
 
-ghost use Rattle.std.specs.Prelude.{◌≡◌, ◌+◌, ◌≤◌, length, map, drop, IfOk, OnOk};
+ghost use Rattle.std.specs.Prelude.{◌≡◌, ◌+◌, ◌≤◌, length, drop, IfOk, OnOk};
 ghost use Rattle.spec_lists.specs.Piece.{old_len, normal};
 ghost use Rattle.spec_lists.specs.Cells.{pieces_in};
 ghost use Rattle.spec_lang.specs.Matcher.{accepts};
 ghost use Rattle.gl_delta.specs.Cells.{cell_ref};
-ghost use Rattle.gl_kernel.specs.Fates.{fate, edits_of};
+ghost use Rattle.gl_kernel.specs.Fates.{edits_of};
 ghost use Rattle.gl_kernel.specs.Plans.{GoesOn, CanTell};
-ghost use Rattle.gl_filter.specs.Told.{told_marks, asked};
+ghost use Rattle.gl_filter.specs.Told.{told_marks, fates, asked};
 
+use crate::marks::note;
 use gl_barcode::Barcode;
 use gl_delta::{Cell, CellRef, Delta};
-use gl_kernel::{Edit, Plan, tell, tell_delete, tell_insert, tell_update};
+use gl_kernel::{LogStep, Plan, tell, tell_delete, tell_insert, tell_update};
 use gl_lang::Matcher;
 use gl_value::Steps;
 use std::alloc::{AllocError, Global};
@@ -27,7 +28,7 @@ pub(crate) fn follow<L: Ledger>(
 ) -> Result<Plan<bool>, AllocError>
     requires { old_len d.now.pieces ≡ length marks.now.shown }
     ensures told { IfOk result (λ plan. plan.out.pieces ≡ normal (told_marks (accepts matcher.now) marks.now.shown d.now.pieces)) }
-    ensures edits { IfOk result (λ plan. plan.log.items ≡ edits_of 0 (map (fate (accepts matcher.now)) d.now.pieces)) }
+    ensures edits { IfOk result (λ plan. plan.log.items ≡ edits_of 0 (fates (accepts matcher.now) marks.now.shown d.now.pieces)) }
     ensures counted { steps.new ≤ steps.old + asked d.now.pieces }
 {
     let _olds = d.old_len();
@@ -54,7 +55,7 @@ fn step<L: Ledger>(
     requires can { CanTell (told_marks (accepts matcher.now) (drop plan.old.place marks.now.shown) (pieces_in (cell_ref cell))) plan.old.out.pieces }
     ensures ok { OnOk result (GoesOn
         (told_marks (accepts matcher.now) (drop plan.old.place marks.now.shown) (pieces_in (cell_ref cell.entry)))
-        (edits_of plan.old.place (map (fate (accepts matcher.now)) (pieces_in (cell_ref cell.entry))))
+        (edits_of plan.old.place (fates (accepts matcher.now) (drop plan.old.place marks.now.shown) (pieces_in (cell_ref cell.entry))))
         (old_len (pieces_in (cell_ref cell.entry))) plan.old plan.new) }
     ensures counted { steps.new ≡ steps.old + asked (pieces_in (cell_ref cell.entry)) }
 {
@@ -70,20 +71,20 @@ fn step<L: Ledger>(
             let was = marks.shown(place);
             let is = matcher.accepts(new, steps);
             tell_update(&mut plan.out, was, is, old, new)?;
-            plan.log.push(Edit::Set(place, is))?;
+            note(&mut plan.log, place, was, is)?;
             plan.place += 1;
             Ok(())
         }
         CellRef::Delete(old) => {
             tell_delete(&mut plan.out, marks.shown(place), old)?;
-            plan.log.push(Edit::Remove(place))?;
+            plan.log.push(LogStep::Remove(place))?;
             plan.place += 1;
             Ok(())
         }
         CellRef::Insert(new) => {
             let is = matcher.accepts(new, steps);
             tell_insert(&mut plan.out, is, new)?;
-            plan.log.push(Edit::Insert(place, is))?;
+            plan.log.push(LogStep::Insert(place, is))?;
             Ok(())
         }
     }

@@ -5,6 +5,8 @@
 mod change;
 mod filter;
 mod follow;
+mod kernel;
+mod marks;
 #[cfg(test)]
 mod tests;
 

@@ -61,8 +61,7 @@ fn follows<L: Ledger>(
     let mut filter = Filter::make(alloc, above_three(alloc), &change.before, &mut steps)?;
     assert!(rt; shows(&filter, &change.before, before));
     let (out, undo) = filter.advance(&change.after, &change.delta, &mut steps)?;
-    assert!(rt; tells(&out, told));
-    assert!(rt; shows(&filter, &change.after, after));
+    assert!(rt; tells(&out, told) && shows(&filter, &change.after, after));
     filter.retreat(undo);
     assert!(rt; shows(&filter, &change.before, before));
     Ok(())
@@ -159,18 +158,42 @@ fn deltas_through_a_filter(rt: HostRuntime) -> Result<(), Fail> {
     Ok(())
 }
 
+// What a matcher is changed to, and what is known of the change.
+#[derive(Clone, Copy)]
+enum Turn {
+    AboveToAll,
+    AboveToNothing,
+    AllToAbove,
+    NothingToAbove,
+    AboveToAllAsked,
+    AboveToNothingAsked,
+    AboveToTwo,
+}
+
+fn matchers(alloc: Global, turn: Turn) -> (Matcher, Matcher, EditKind)
+    ensures { Says result.2 result.0 result.1 }
+{
+    let above = above_three(alloc);
+    match turn {
+        Turn::AboveToAll => (above, Matcher::all(), EditKind::All),
+        Turn::AboveToNothing => (above, Matcher::nothing(), EditKind::Nothing),
+        Turn::AllToAbove => (Matcher::all(), above, EditKind::Constrained),
+        Turn::NothingToAbove => (Matcher::nothing(), above, EditKind::Relaxed),
+        Turn::AboveToAllAsked => (above, Matcher::all(), EditKind::Relaxed),
+        Turn::AboveToNothingAsked => (above, Matcher::nothing(), EditKind::Constrained),
+        Turn::AboveToTwo => (above, two(alloc), EditKind::Changed),
+    }
+}
+
 // The filter of [5, 2, 9, 2] takes another matcher, and goes back.
 fn changes<L: Ledger>(
     rt: &impl Abort,
     alloc: Global,
-    old: Matcher,
-    new: Matcher,
-    kind: EditKind,
+    turn: Turn,
     told: &[Told],
     after: &[i64],
     blank: Blank,
 ) -> Result<(), Fail>
-    requires says { Says kind old new }
     requires name { blank.name ≡ L.name }
     requires parts { blank.parts ≡ L.parts }
     requires some { 0 < blank.parts }
@@ -178,11 +201,11 @@ fn changes<L: Ledger>(
     let mut steps: Steps<L> = Steps::new(blank);
     let list = numbers(alloc, &[5, 2, 9, 2])?;
     assert!(rt; list.len() < 100);
+    let (old, new, kind) = matchers(alloc, turn);
     let mut filter = Filter::make(alloc, old, &list, &mut steps)?;
     let before = filter.len();
     let (out, undo) = filter.change(new, kind, &list, &mut steps)?;
-    assert!(rt; tells(&out, told));
-    assert!(rt; shows(&filter, &list, after));
+    assert!(rt; tells(&out, told) && shows(&filter, &list, after));
     filter.retreat(undo);
     assert!(rt; filter.len() == before);
     Ok(())
@@ -190,90 +213,53 @@ fn changes<L: Ledger>(
 
 fn changed(
     rt: &impl Abort,
-    old: Matcher,
-    new: Matcher,
-    kind: EditKind,
+    turn: Turn,
     told: &[Told],
     after: &[i64],
     alloc: Global,
-) -> Result<(), Fail>
-    requires { Says kind old new }
-{
-    changes::<Brand>(rt, alloc, old, new, kind, told, after, Blank::new(1))
+) -> Result<(), Fail> {
+    changes::<Brand>(rt, alloc, turn, told, after, Blank::new(1))
 }
 
 #[test]
 fn other_matchers(rt: HostRuntime) -> Result<(), Fail> {
-    let alloc = rt.alloc();
-    let above = above_three(alloc);
-    let told = [
+    let inserted = [
         Told::Keep(1),
         Told::Insert(2),
         Told::Keep(1),
         Told::Insert(2),
     ];
-    changed(
-        &rt,
-        above,
-        Matcher::all(),
-        EditKind::All,
-        &told,
-        &[5, 2, 9, 2],
-        alloc,
-    )?;
-    let above = above_three(alloc);
-    let told = [Told::Delete(5), Told::Delete(9)];
-    changed(
-        &rt,
-        above,
-        Matcher::nothing(),
-        EditKind::Nothing,
-        &told,
-        &[],
-        alloc,
-    )?;
-    let above = above_three(alloc);
-    let told = [
+    let hidden = [
         Told::Keep(1),
         Told::Delete(2),
         Told::Keep(1),
         Told::Delete(2),
     ];
-    changed(
-        &rt,
-        Matcher::all(),
-        above,
-        EditKind::Constrained,
-        &told,
-        &[5, 9],
-        alloc,
-    )?;
-    let above = above_three(alloc);
-    let told = [Told::Insert(5), Told::Insert(9)];
-    changed(
-        &rt,
-        Matcher::nothing(),
-        above,
-        EditKind::Relaxed,
-        &told,
-        &[5, 9],
-        alloc,
-    )?;
-    let above = above_three(alloc);
-    let told = [
+    let deleted = [Told::Delete(5), Told::Delete(9)];
+    let exchanged = [
         Told::Delete(5),
         Told::Delete(9),
         Told::Insert(2),
         Told::Insert(2),
     ];
-    changed(
-        &rt,
-        above,
-        two(alloc),
-        EditKind::Changed,
-        &told,
-        &[2, 2],
-        alloc,
-    )?;
+    for (turn, told, after) in [
+        (
+            Turn::AboveToAll,
+            inserted.as_slice(),
+            [5i64, 2, 9, 2].as_slice(),
+        ),
+        (Turn::AboveToAllAsked, &inserted, &[5, 2, 9, 2]),
+        (Turn::AboveToNothing, &deleted, &[]),
+        (Turn::AboveToNothingAsked, &deleted, &[]),
+        (Turn::AllToAbove, &hidden, &[5, 9]),
+        (
+            Turn::NothingToAbove,
+            &[Told::Insert(5), Told::Insert(9)],
+            &[5, 9],
+        ),
+        (Turn::AboveToTwo, &exchanged, &[2, 2]),
+    ] {
+        changed(&rt, turn, told, after, rt.alloc())?;
+    }
     Ok(())
 }

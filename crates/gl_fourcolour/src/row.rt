@@ -1,11 +1,11 @@
 ghost use Rattle.std.specs.Prelude.{◌≡◌, ◌+◌, ◌-◌, ◌*◌, ◌^◌, ◌<◌, ◌≤◌, ℕ, List, [], ◌++◌, length, insert, remove, OnOk, Option, option_map, slice_get, slice_set};
 ghost use Rattle.gl_fourcolour.specs.Rows.{last_run};
-ghost use Rattle.gl_fourcolour.specs.Counts.{IsFound, sum_of, total_of, run_of};
+ghost use Rattle.gl_fourcolour.specs.Counts.{IsFound, sum_of, total_of, weigh, run_of};
 ghost use Rattle.gl_fourcolour.specs.declared.run.Run.{Run};
 
 use crate::counts::{Counts, Mask, counts_of, run_of, total};
 use crate::run::Run;
-use gl_ranktree::RankTree;
+use gl_ranktree::{Measure, RankTree};
 use std::alloc::{AllocError, Global};
 use std::marker::Model;
 
@@ -74,12 +74,27 @@ impl RunRow {
         self.tree.height()
     }
 
+    /// How many runs there are.
+    pub(crate) fn len(&self) -> usize
+        ensures { result ≡ length self.now.runs }
+    {
+        self.tree.len()
+    }
+
     /// How many places the runs have.
     pub(crate) fn places(&self) -> usize
         requires { total_of (sum_of self.now.runs) < 2 ^ 32 }
         ensures { result ≡ total_of (sum_of self.now.runs) }
     {
         total(self.tree.sum())
+    }
+
+    /// How many places of the runs have a colour of the set.
+    pub(crate) fn weight(&self, mask: Mask) -> usize
+        requires { total_of (sum_of self.now.runs) < 2 ^ 32 }
+        ensures { result ≡ weigh mask.bits (sum_of self.now.runs) }
+    {
+        mask.of(self.tree.sum())
     }
 
     /// The run at a place of the list of runs.

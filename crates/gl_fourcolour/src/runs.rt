@@ -12,7 +12,7 @@ use std::marker::Model;
 /// A list of `C` colours, the numbers from 0 on, kept as a balanced tree of its runs of one colour.
 ///
 /// A set of colours is a mask: bit number k stands for colour k. It is the four-colour tree of
-/// Glazed Lists. All calls but `reserve` take time logarithmic in the number of runs; `remove` and
+/// Glazed Lists. All calls but `reserve` and `reserve_runs` take time logarithmic in the number of runs; `remove` and
 /// `paint` take that for each run that they cover.
 #[derive(Drop)]
 pub struct Runs<const C: usize> {
@@ -69,6 +69,13 @@ impl<const C: usize> Runs<C> {
         ask::colour::<C>(&self.row, at)
     }
 
+    /// How many places have a colour of the set, in constant time.
+    pub fn count(&self, colours: u8) -> usize
+        ensures { result ≡ count_among colours self.now.colours }
+    {
+        self.row.weight(Mask { bits: colours })
+    }
+
     /// How many places before `at` have a colour of the set.
     pub fn rank(&self, at: usize, colours: u8) -> usize
         requires { at ≤ length self.now.colours }
@@ -95,6 +102,15 @@ impl<const C: usize> Runs<C> {
             Some(runs) => self.row.reserve(runs),
             None => Err(AllocError),
         }
+    }
+
+    /// Makes room for so many runs in all.
+    pub fn reserve_runs(&mut self, runs: usize) -> Result<(), AllocError>
+        ensures ok { OnOk result (runs ≤ self.new.room) }
+        ensures colours { self.new.colours ≡ self.old.colours }
+        ensures room { self.old.room ≤ self.new.room }
+    {
+        self.row.reserve(runs.saturating_sub(self.row.len()))
     }
 
     /// Puts `n` places of a colour in at a place. It takes memory where there is no room.

@@ -61,7 +61,13 @@ fn counts(runs: &Runs<4>, plain: &[u8], at: usize, mask: u8) -> bool {
     let place = plain[at..]
         .iter()
         .position(|colour| is_among(*colour, mask));
-    runs.rank(at, mask) == before && runs.select(before, mask) == place.map(|further| at + further)
+    let all = plain
+        .iter()
+        .filter(|colour| is_among(**colour, mask))
+        .count();
+    runs.rank(at, mask) == before
+        && runs.count(mask) == all
+        && runs.select(before, mask) == place.map(|further| at + further)
 }
 
 // Puts `n` places of a colour in, and takes the room first.
@@ -148,6 +154,7 @@ fn refusals_change_nothing(rt: HostRuntime) -> Result<(), Fail> {
     let mut plain = Vec::with_capacity(rt.alloc(), 200)?;
     for k in 0..40u8 {
         assert!(rt; runs.len() < 100_000);
+        let _more = runs.reserve_runs(k as usize);
         if runs.insert(runs.len() / 2, k % 4, 3).is_ok() {
             for _ in 0..3 {
                 let middle = plain.len() / 2;

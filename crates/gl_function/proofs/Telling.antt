@@ -1,35 +1,17 @@
 -- What is told by the results that are kept is what the definition tells.
-use Rattle.std.specs.Prelude.{◌≡◌, ℕ, zero, suc, ◌+◌, ◌≤◌, List, [], ◌∷◌, ◌++◌, map, drop, slice_get, Some, refl}
+use Rattle.std.specs.Prelude.{◌≡◌, ℕ, zero, suc, pos, ◌+◌, ◌≤◌, List, [], ◌∷◌, ◌++◌, map, drop, slice_get, Some, refl}
 use Rattle.std.proofs.Common.{ap, ◌∙◌, arith}
 use Rattle.std.proofs.lemmas.Option.{get_or_from_slice_get}
-use Rattle.spec_value.specs.Tree.{Tree}
+use Rattle.spec_value.specs.Tree.{Tree, num}
 use Rattle.spec_lists.specs.Piece.{Piece, kept, updated, deleted, inserted, identity, old_len, new_len, normal, IsNormal}
 use Rattle.spec_lists.specs.Leads.{LeadsFrom}
-use Rattle.spec_lists.proofs.Normal.{old_len-normal, new_len-normal, normal_is}
+use Rattle.spec_lists.proofs.Normal.{normal_is}
 use Rattle.spec_views.specs.Function.{function_follow}
 use Rattle.spec_views.proofs.Following.{function_normal}
 use Rattle.gl_kernel.specs.Plans.{CanTell}
-use Rattle.gl_kernel.proofs.Spreading.{told_olds, told_news}
+use Rattle.gl_kernel.proofs.Spreading.{can_tell_whole}
+use Rattle.gl_kernel.proofs.Reading.{drop_first}
 use Rattle.gl_function.specs.Told.{result_at, told_results}
-
--- the first result behind a place, and those behind it
-drop_first : (vs : List Tree) (i : ℕ) (x : Tree) (us : List Tree) → drop i vs ≡ x ∷ us → (result_at vs i ≡ x) × (drop (suc i) vs ≡ us)
-drop_first [] zero x us e = absurd (none x us e)
-  where
-    none : (y : Tree) (zs : List Tree) → [] ≡ y ∷ zs → ⊥
-    none y zs f = cc
-drop_first [] (suc i) x us e = absurd (none x us e)
-  where
-    none : (y : Tree) (zs : List Tree) → [] ≡ y ∷ zs → ⊥
-    none y zs f = cc
-drop_first (v ∷ vs) zero x us e = (head v x vs us e, tail v x vs us e)
-  where
-    head : (a b : Tree) (ys zs : List Tree) → a ∷ ys ≡ b ∷ zs → a ≡ b
-    head a b ys zs f = cc
-
-    tail : (a b : Tree) (ys zs : List Tree) → a ∷ ys ≡ b ∷ zs → ys ≡ zs
-    tail a b ys zs f = cc
-drop_first (v ∷ vs) (suc i) x us e = drop_first vs i x us e
 
 same_updated : (v x w : Tree) (r s : List Piece) → v ≡ x → r ≡ s → updated v w ∷ r ≡ updated x w ∷ s
 same_updated v x w r s e h = cc
@@ -40,14 +22,14 @@ same_deleted v x r s e h = cc
 told_is : (f : Tree → Tree) (vs xs : List Tree) (ps : List Piece) (i : ℕ) → LeadsFrom ps xs → drop i vs ≡ map f xs → told_results f vs i ps ≡ function_follow f ps
 told_is f vs xs [] i h e = refl
 told_is f vs [] (kept ∷ ps) i h e = absurd h
-told_is f vs (x ∷ xs) (kept ∷ ps) i h e = let next = drop_first vs i (f x) (map f xs) e in ap (λ qs. kept ∷ qs) (told_is f vs xs ps (suc i) h next.1)
+told_is f vs (x ∷ xs) (kept ∷ ps) i h e = let next = drop_first (num (pos 0)) vs i (f x) (map f xs) e in ap (λ qs. kept ∷ qs) (told_is f vs xs ps (suc i) h next.1)
 told_is f vs [] (updated v w ∷ ps) i h e = absurd h
 told_is f vs (x ∷ xs) (updated v w ∷ ps) i h e =
-    let next = drop_first vs i (f x) (map f xs) e in
+    let next = drop_first (num (pos 0)) vs i (f x) (map f xs) e in
     same_updated _ _ (f w) _ _ (next.0 ∙ ap f h.0) (told_is f vs xs ps (suc i) h.1 next.1)
 told_is f vs [] (deleted v ∷ ps) i h e = absurd h
 told_is f vs (x ∷ xs) (deleted v ∷ ps) i h e =
-    let next = drop_first vs i (f x) (map f xs) e in
+    let next = drop_first (num (pos 0)) vs i (f x) (map f xs) e in
     same_deleted _ _ _ _ (next.0 ∙ ap f h.0) (told_is f vs xs ps (suc i) h.1 next.1)
 told_is f vs xs (inserted w ∷ ps) i h e = ap (λ qs. inserted (f w) ∷ qs) (told_is f vs xs ps i h e)
 
@@ -88,11 +70,7 @@ told_new f vs i (inserted w ∷ ps) = ap suc (told_new f vs i ps)
 
 pub can_tell : (f : Tree → Tree) (vs : List Tree) (ps out told rest : List Piece) → old_len ps ≤ 2147483647 → new_len ps ≤ 2147483647 → normal (out ++ (told ++ rest)) ≡ normal (told_results f vs 0 ps) → CanTell told out
 can_tell f vs ps out told rest h k e =
-    let whole = told_results f vs 0 ps in
-    record {
-      olds = omega (arith, told_olds (normal whole) out told rest e, old_len-normal whole, told_old f vs 0 ps, h);
-      news = omega (arith, told_news (normal whole) out told rest e, new_len-normal whole, told_new f vs 0 ps, k);
-    }
+    can_tell_whole (told_results f vs 0 ps) out told rest (omega (arith, told_old f vs 0 ps, h)) (omega (arith, told_new f vs 0 ps, k)) e
 
 -- kept elements are told as they are
 pub keeps_told : (f : Tree → Tree) (vs : List Tree) (i n : ℕ) → told_results f vs i (identity n) ≡ identity n

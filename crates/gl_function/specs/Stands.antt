@@ -1,14 +1,15 @@
 -- What a function list stands for, and what its undos give back.
-use Rattle.std.specs.Prelude.{◌≡◌, List, length, map, unwrap_or}
+use Rattle.std.specs.Prelude.{List, length, unwrap_or}
 use Rattle.spec_value.specs.Tree.{Tree}
 use Rattle.spec_lang.specs.Func.{Func, eval}
 use Rattle.gl_kernel.specs.Edits.{played, CanPlay}
+use Rattle.gl_kernel.specs.Results.{AreResults, LeadsBack}
 use Rattle.gl_function.specs.Kept.{Kept}
 use Rattle.gl_function.specs.declared.function.FunctionUndo.{FunctionUndo}
 
 -- the list stands for an input: it keeps what its function makes of each of its elements
 abbrev pub StandsFor : Kept → List Tree → Type 0
-StandsFor k xs = k.values ≡ map (eval k.func) xs
+StandsFor k xs = AreResults (eval k.func) k.values xs
 
 -- what a function list is, whatever its room
 pub record Contents : Type 0 where
@@ -26,7 +27,6 @@ before undo k = record { func = unwrap_or undo.func k.func; values = played undo
 abbrev pub CanRetreat : FunctionUndo → Kept → Type 0
 CanRetreat undo k = CanPlay length k.room undo.log.items k.values
 
--- the undo is of the list's last change: it leads back to what the list was, and there is the room for that
-pub record IsUndo (undo : FunctionUndo) (old new : Kept) : Type 0 where
-  pub back : before undo new ≡ contents old
-  pub can : CanRetreat undo new
+-- the undo is of the list's last change
+abbrev pub IsUndo : FunctionUndo → Kept → Kept → Type 0
+IsUndo undo old new = LeadsBack (before undo new) (contents old) (CanRetreat undo new)

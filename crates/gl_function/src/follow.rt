@@ -5,13 +5,13 @@ ghost use Rattle.spec_lists.specs.Piece.{updated, old_len, normal};
 ghost use Rattle.spec_lists.specs.Cells.{pieces_in};
 ghost use Rattle.spec_lang.specs.Func.{eval};
 ghost use Rattle.gl_delta.specs.Cells.{cell_ref};
-ghost use Rattle.gl_kernel.specs.declared.edit.Edit.TheVariants.{Set};
+ghost use Rattle.gl_kernel.specs.declared.log_step.LogStep.TheVariants.{Set};
 ghost use Rattle.gl_kernel.specs.Fates.{fate, edits_of};
 ghost use Rattle.gl_kernel.specs.Plans.{GoesOn, CanTell};
 ghost use Rattle.gl_function.specs.Told.{told_results};
 
 use gl_delta::{Cell, CellRef, Delta};
-use gl_kernel::{Edit, Plan, ValueList, element, tell};
+use gl_kernel::{LogStep, Plan, ValueList, element, tell};
 use gl_lang::Func;
 use gl_value::Value;
 use std::alloc::{AllocError, Global};
@@ -69,13 +69,13 @@ fn step(
         CellRef::Delete(_old) => {
             let old = element(results, plan.place);
             tell(&mut plan.out, Cell::Delete(old.copy()?))?;
-            plan.log.push(Edit::Remove(plan.place))?;
+            plan.log.push(LogStep::Remove(plan.place))?;
             plan.place += 1;
             Ok(())
         }
         CellRef::Insert(new) => {
             let result = func.eval(alloc, new)?;
-            plan.log.push(Edit::Insert(plan.place, result.copy()?))?;
+            plan.log.push(LogStep::Insert(plan.place, result.copy()?))?;
             tell(&mut plan.out, Cell::Insert(result))
         }
     }
@@ -95,7 +95,7 @@ pub(crate) fn tell_updated(
         (Set plan.old.place (eval func.now new.now) ∷ []) 1 plan.old plan.new) }
 {
     let result = func.eval(alloc, new)?;
-    plan.log.push(Edit::Set(plan.place, result.copy()?))?;
+    plan.log.push(LogStep::Set(plan.place, result.copy()?))?;
     tell(&mut plan.out, Cell::Update(old.copy()?, result))?;
     plan.place += 1;
     Ok(())

@@ -11,7 +11,7 @@ ghost use Rattle.gl_function.specs.Stands.{StandsFor, contents, before, CanRetre
 
 use crate::follow::follow;
 use gl_delta::{Delta, Find};
-use gl_kernel::{Edit, Editable, ValueList, apply, element, take_back};
+use gl_kernel::{Editable, LogStep, ValueList, apply, element, take_back};
 use gl_lang::Func;
 use gl_value::{Shelf, Steps, Value};
 use std::alloc::{AllocError, Global};
@@ -42,7 +42,7 @@ impl Model for Function {
 #[derive(Drop)]
 pub struct FunctionUndo {
     pub(crate) func: Option<Func>,
-    pub(crate) log: Vec<Edit<Value>>,
+    pub(crate) log: Vec<LogStep<Value>>,
 }
 
 impl Function {

@@ -5,6 +5,7 @@
 mod change;
 mod follow;
 mod function;
+mod kernel;
 #[cfg(test)]
 mod tests;
 

@@ -10,7 +10,7 @@ use Rattle.spec_states.specs.Shown.{nothing_shown, settled, shows_in}
 use Rattle.spec_states.specs.Laws.{IsOrdered}
 use Rattle.gl_graph.specs.declared.node.Node.{Node}
 use Rattle.gl_graph.specs.Nodes.{own_of_node, own_in, state_of, numbers, shown_by, OnInput, StandsFor, IsPlaced, IsInTurn, IsSettled}
-use Rattle.gl_graph.specs.Undos as kernel
+use Rattle.gl_graph.specs.Undos as keeps
 use Rattle.gl_graph.specs.Graph.{IsGraph}
 use Rattle.gl_graph.specs.Waves.{contents_of}
 use Rattle.gl_graph.proofs.Rooms.{own_same, stands_same, limited_same, on_input_same, on_input_more}
@@ -20,7 +20,7 @@ record Twin (nodes : List Node) (place : ℕ) (node : Node) : Type 0 where
   pub other : Node
   pub is : slice_get nodes place ≡ Some other
   pub list_is : other.list ≡ node.list
-  pub contents_are : kernel.contents other.kernel ≡ kernel.contents node.kernel
+  pub contents_are : keeps.contents other.keeps ≡ keeps.contents node.keeps
 
 twin : (a b : List Node) → numbers a ≡ numbers b → contents_of a ≡ contents_of b → (place : ℕ) (node : Node)
     → slice_get b place ≡ Some node → Twin a place node
@@ -29,7 +29,7 @@ twin [] (n ∷ b) e f place node is = absurd cc
 twin (m ∷ a) (n ∷ b) e f zero node is =
     let same : n ≡ node = cc in
     let number : m.list ≡ n.list = cc in
-    let contents : kernel.contents m.kernel ≡ kernel.contents n.kernel = cc in
+    let contents : keeps.contents m.keeps ≡ keeps.contents n.keeps = cc in
     subst (λ x. Twin (m ∷ a) 0 x) same (record { other = m; is = refl; list_is = number; contents_are = contents })
 twin (m ∷ a) (n ∷ b) e f (suc place) node is =
     let numbers_are : numbers a ≡ numbers b = cc in
@@ -42,7 +42,7 @@ own_at_place : (a b : List Node) → contents_of a ≡ contents_of b → (place 
 own_at_place [] [] e place = refl
 own_at_place [] (n ∷ b) e place = absurd cc
 own_at_place (m ∷ a) [] e place = absurd cc
-own_at_place (m ∷ a) (n ∷ b) e zero = (let same : kernel.contents m.kernel ≡ kernel.contents n.kernel = cc in own_same m.kernel n.kernel same)
+own_at_place (m ∷ a) (n ∷ b) e zero = (let same : keeps.contents m.keeps ≡ keeps.contents n.keeps = cc in own_same m.keeps n.keeps same)
 own_at_place (m ∷ a) (n ∷ b) e (suc place) = (let rest : contents_of a ≡ contents_of b = cc in own_at_place a b rest place)
 
 -- they make the same state
@@ -74,26 +74,26 @@ placed_same : (a b : List Node) (places : List ℕ) → numbers a ≡ numbers b 
 placed_same a b places e list h = record { within = h.within; there = subst (λ ns. slice_get ns (slice_index places list) ≡ Some list) e h.there }
 
 turn_same : (a b : List Node) (places : List ℕ) → numbers a ≡ numbers b → (place : ℕ) (m n : Node) → m.list ≡ n.list
-    → kernel.contents m.kernel ≡ kernel.contents n.kernel
+    → keeps.contents m.keeps ≡ keeps.contents n.keeps
     → IsInTurn a places place m → IsInTurn b places place n
 turn_same a b places e place m n list_is contents_are turn =
-    let behind : OnInput (IsPlaced (take place a) places) n.kernel = on_input_same (IsPlaced (take place a) places) m.kernel n.kernel contents_are turn.behind in
+    let behind : OnInput (IsPlaced (take place a) places) n.keeps = on_input_same (IsPlaced (take place a) places) m.keeps n.keeps contents_are turn.behind in
     record {
       within = subst (λ l. l < length places) list_is turn.within;
       placed = subst (λ l. slice_index places l ≡ place) list_is turn.placed;
-      behind = on_input_more (placed_same (take place a) (take place b) places (numbers_front a b place e)) n.kernel behind;
+      behind = on_input_more (placed_same (take place a) (take place b) places (numbers_front a b place e)) n.keeps behind;
     }
 
 settled_same : (a b : List Node) (places : List ℕ) → numbers a ≡ numbers b → contents_of a ≡ contents_of b
-    → (place : ℕ) (m n : Node) → m.list ≡ n.list → kernel.contents m.kernel ≡ kernel.contents n.kernel
+    → (place : ℕ) (m n : Node) → m.list ≡ n.list → keeps.contents m.keeps ≡ keeps.contents n.keeps
     → IsSettled a places place m → IsSettled b places place n
 settled_same a b places e f place m n list_is contents_are h =
     let shows : shown_by a places ≡ shown_by b places = shows_same a b places e f in
-    let stands : StandsFor n.kernel (shown_by a places) = stands_same (shown_by a places) m.kernel n.kernel contents_are h.stands in
+    let stands : StandsFor n.keeps (shown_by a places) = stands_same (shown_by a places) m.keeps n.keeps contents_are h.stands in
     let few : length (shown_by a places n.list) ≤ 2147483647 = subst (λ l. length (shown_by a places l) ≤ 2147483647) list_is h.few in
     record {
       turn = turn_same a b places e place m n list_is contents_are h.turn;
-      stands = subst (λ shown. StandsFor n.kernel shown) shows stands;
+      stands = subst (λ shown. StandsFor n.keeps shown) shows stands;
       few = subst (λ (shown : ℕ → List Tree). length (shown n.list) ≤ 2147483647) shows few;
     }
 
@@ -109,6 +109,6 @@ graph_same limit a b places e f g =
       ordered = subst (λ s. IsOrdered s) state g.ordered;
       order = subst (λ s. turns s ≡ numbers b) state (g.order ∙ e);
       settled = λ place node is. (let t = twin a b e f place node is in settled_same a b places e f place t.other node t.list_is t.contents_are (g.settled place t.other t.is));
-      limited = λ place node is. (let t = twin a b e f place node is in limited_same limit t.other.kernel node.kernel t.contents_are (g.limited place t.other t.is));
+      limited = λ place node is. (let t = twin a b e f place node is in limited_same limit t.other.keeps node.keeps t.contents_are (g.limited place t.other t.is));
       within = subst (λ s. too_long limit s ≡ None) state g.within;
     }

@@ -13,9 +13,9 @@ use Rattle.gl_source.specs.declared.fault.EditFault.{EditFault}
 use Rattle.gl_source.specs.declared.fault.EditFault.TheVariants as fault
 use Rattle.gl_source.specs.Edits as edits
 use Rattle.spec_states.specs.State.{source}
-use Rattle.spec_states.specs.Step.{out_of_range, past_end}
+use Rattle.spec_states.specs.Step.{out_of_range, past_end, refused_by}
 use Rattle.spec_states.specs.Wave.{edit, edited}
-use Rattle.gl_graph.specs.Commands.{IsEdit, edit_for, refused, IsTooLong, IsMade, IsWhy}
+use Rattle.gl_graph.specs.Commands.{IsEdit, edit_for, IsTooLong, IsMade, IsWhy}
 
 pub told_is : (command : Command) (xs : List Tree) → IsEdit command → edits.told (edit_for command) xs ≡ edit command xs
 told_is (c.Add list value) xs h =
@@ -65,7 +65,7 @@ past_outside index len h = by_test (nat_le index len) refl
     by_test true e = let below : index ≤ len = leb-true index len e in absurd (omega (arith, h, below))
     by_test false e = refl
 
-pub inside_is : (command : Command) (xs : List Tree) → IsEdit command → ¬ edits.IsOutside (edit_for command) xs → refused command (length xs) ≡ None
+pub inside_is : (command : Command) (xs : List Tree) → IsEdit command → ¬ edits.IsOutside (edit_for command) xs → refused_by (source xs) command ≡ None
 inside_is (c.Add list value) xs h inside = refl
 inside_is (c.AddAll list values) xs h inside = refl
 inside_is (c.Insert list index value) xs h inside = past_inside index (length xs) inside
@@ -74,7 +74,7 @@ inside_is (c.Remove list index) xs h inside = below_inside index (length xs) ins
 inside_is (c.Clear list) xs h inside = refl
 inside_is other xs h inside = absurd h
 
-pub outside_is : (command : Command) (xs : List Tree) (index len : ℕ) → IsEdit command → edits.IsOutOfRange (edit_for command) xs index len → refused command (length xs) ≡ Some (reply.OutOfRange index len)
+pub outside_is : (command : Command) (xs : List Tree) (index len : ℕ) → IsEdit command → edits.IsOutOfRange (edit_for command) xs index len → refused_by (source xs) command ≡ Some (reply.OutOfRange index len)
 outside_is (c.Add list value) xs at len h out = absurd out.outside
 outside_is (c.AddAll list values) xs at len h out = absurd out.outside
 outside_is (c.Insert list index value) xs at len h out =
@@ -86,7 +86,7 @@ outside_is (c.Remove list index) xs at len h out =
 outside_is (c.Clear list) xs at len h out = absurd out.outside
 outside_is other xs at len h out = absurd h
 
-pub long_is : (command : Command) (xs : List Tree) (limit len : ℕ) → IsEdit command → edits.IsTooLong (edit_for command) xs limit len → IsTooLong command (source xs) limit len
+pub long_is : (command : Command) (xs : List Tree) (limit len : ℕ) → IsEdit command → edits.IsTooLong (edit_for command) xs limit len → IsTooLong command xs limit len
 long_is command xs limit len h long = record {
   inside = inside_is command xs h long.inside;
   past = long.past;
@@ -102,7 +102,7 @@ in_place (e.Remove index) xs h out = h index (length xs) (record { outside = out
 in_place e.Clear xs h out = out
 
 pub made_is : (command : Command) (xs : List Tree) (limit : ℕ) → IsEdit command → ((index len : ℕ) → ¬ edits.IsOutOfRange (edit_for command) xs index len)
-    → ((len : ℕ) → ¬ edits.IsTooLong (edit_for command) xs limit len) → IsMade command (source xs) limit
+    → ((len : ℕ) → ¬ edits.IsTooLong (edit_for command) xs limit len) → IsMade command xs limit
 made_is command xs limit h inside few =
     let here : ¬ edits.IsOutside (edit_for command) xs = in_place (edit_for command) xs inside in
     let long : ℕ = length (edits.edited (edit_for command) xs) in
@@ -117,7 +117,7 @@ made_is command xs limit h inside few =
 
 pub result_made : {X : Type 0} (command : Command) (xs : List Tree) (limit : ℕ) (r : Result X EditFault) (edit : Edit) → IsEdit command → edit ≡ edit_for command
     → ((index len : ℕ) → (r ≡ Err (fault.OutOfRange index len)) ↔ edits.IsOutOfRange edit xs index len)
-    → ((len : ℕ) → (r ≡ Err (fault.TooLong len)) ↔ edits.IsTooLong edit xs limit len) → OnOk r (IsMade command (source xs) limit)
+    → ((len : ℕ) → (r ≡ Err (fault.TooLong len)) ↔ edits.IsTooLong edit xs limit len) → OnOk r (IsMade command xs limit)
 result_made command xs limit (Err f) edit h is range long = tt
 result_made command xs limit (Ok x) edit h is range long =
     made_is command xs limit h
@@ -126,7 +126,7 @@ result_made command xs limit (Ok x) edit h is range long =
 
 pub result_why : {X : Type 0} (command : Command) (xs : List Tree) (limit : ℕ) (r : Result X EditFault) (edit : Edit) → IsEdit command → edit ≡ edit_for command
     → ((index len : ℕ) → (r ≡ Err (fault.OutOfRange index len)) ↔ edits.IsOutOfRange edit xs index len)
-    → ((len : ℕ) → (r ≡ Err (fault.TooLong len)) ↔ edits.IsTooLong edit xs limit len) → IfErr r (IsWhy command (source xs) limit)
+    → ((len : ℕ) → (r ≡ Err (fault.TooLong len)) ↔ edits.IsTooLong edit xs limit len) → IfErr r (IsWhy command xs limit)
 result_why command xs limit (Ok x) edit h is range long = tt
 result_why command xs limit (Err (fault.OutOfRange index len)) edit h is range long =
     outside_is command xs index len h (subst (λ ed. edits.IsOutOfRange ed xs index len) is ((range index len).0 refl))

@@ -10,26 +10,28 @@ use Rattle.spec_order.proofs.Members.{Contains-cons_cases}
 use Rattle.gl_lines.specs.declared.plan.Command.{Command}
 use Rattle.gl_lines.specs.declared.reply.Reply.TheVariants as reply
 use Rattle.gl_delta.specs.Told.{Told}
-use Rattle.spec_plans.specs.Plan.{origin}
+use Rattle.spec_plans.specs.Plan.{origin as about}
 use Rattle.spec_states.specs.State.{State, own_at, turns}
 use Rattle.spec_states.specs.Laws.{IsOrdered}
 use Rattle.spec_states.specs.Shown.{Table, shows_in, shown, table_of}
-use Rattle.spec_states.specs.Wave.{wave}
+use Rattle.spec_states.specs.Wave.{command, wave}
 use Rattle.spec_states.specs.Step.{first_longer, refusal, too_long, unmoved}
-use Rattle.spec_states.proofs.Views.{wave_ordered}
+use Rattle.spec_states.proofs.Turns.{ordered as order_of}
+use Rattle.spec_states.proofs.Views.{wave_ordered, wave_turns}
 use Rattle.gl_graph.specs.declared.node.Node.{Node}
-use Rattle.gl_graph.specs.declared.undo.KernelUndo.{KernelUndo}
 use Rattle.gl_graph.specs.Nodes.{own_of_node, numbers, state_of, IsPlaced, AreSettled}
 use Rattle.gl_graph.specs.Graph.{IsGraph}
-use Rattle.gl_graph.specs.Undos.{contents, room_of}
-use Rattle.gl_graph.specs.Waves.{AreTold, contents_of, before_all, CanAllGoBack, HaveRoomOf}
-use Rattle.gl_graph.specs.Spread.{IsBegun, AreTurned, LeadBack, IsSpread}
-use Rattle.gl_graph.proofs.Showing.{turns_of_settled, own_at_state, member_at}
+use Rattle.gl_graph.specs.Undos.{room_of}
+use Rattle.gl_graph.specs.Waves.{Made, by_place, AreTold, CanAllGoBack, HaveRoomOf}
+use Rattle.gl_graph.specs.Spread.{HasBegun, IsBegun, AreTurned, HaveBack, IsSpread}
+use Rattle.gl_graph.proofs.Plain.{own_at_state, long_state}
+use Rattle.gl_graph.proofs.Taken.{none_back}
+use Rattle.gl_graph.proofs.Showing.{turns_of_settled, member_at}
 use Rattle.gl_graph.proofs.Fronts.{node_of}
 use Rattle.gl_graph.proofs.Starting.{none_longer, same_state}
 use Rattle.gl_graph.proofs.Turning.{take_all}
-use Rattle.gl_graph.proofs.Nexting.{long_state, long_wave}
-use Rattle.gl_graph.proofs.Refusing.{front_few, unmoved_by, wave_turns}
+use Rattle.gl_graph.proofs.Nexting.{long_wave, start_about}
+use Rattle.gl_graph.proofs.Refusing.{front_few, unmoved_by}
 
 -- where none is too long, each is within the limit
 few_by : (limit : ℕ) (t : Table) (xs : List ℕ) (y : ℕ) → first_longer limit t xs ≡ None → Contains xs y → length (shows_in t y) ≤ limit
@@ -49,6 +51,19 @@ shown_few limit old places g list within =
     let s : State = state_of old places in
     few_by limit (table_of s) (turns s) list g.within (subst (λ xs. Contains xs list) (sym g.order) (member_at (numbers old) (slice_index places list) list (g.placed list within).there))
 
+-- a list has its place below the number of nodes
+pub start_low : (limit : ℕ) (old : List Node) (places : List ℕ) (list : ℕ) → IsGraph limit old places → list < length places → slice_index places list < length old
+start_low limit old places list g within =
+    let low : slice_index places list < length (numbers old) = slice_get_within (numbers old) (slice_index places list) list (g.placed list within).there in
+    omega (arith, low, length-map old (λ (n : Node). n.list))
+
+-- there are few nodes
+pub nodes_few : (limit : ℕ) (old : List Node) (places : List ℕ) → IsGraph limit old places → length old ≤ 256
+nodes_few limit old places g =
+    let s : State = state_of old places in
+    let whole : length (turns s) ≡ length s = (order_of s g.ordered).whole in
+    omega (arith, whole, ap length g.order, length-map old (λ (n : Node). n.list), long_state old places, g.few_lists)
+
 -- nothing yet
 all_at : {X : Type 0} (x : X) (n k : ℕ) → slice_index_or (replicate n x) k x ≡ x
 all_at x zero k = refl
@@ -64,11 +79,6 @@ all_get x zero k h = absurd (omega (arith, h))
 all_get x (suc n) zero h = refl
 all_get x (suc n) (suc k) h = all_get x n k (omega (arith, h))
 
-none_back : (n : ℕ) (nodes : List Node) → before_all (replicate n None) nodes ≡ contents_of nodes
-none_back n [] = refl
-none_back zero (m ∷ nodes) = ap (λ ks. contents m.kernel ∷ ks) (none_back zero nodes)
-none_back (suc n) (m ∷ nodes) = ap (λ ks. contents m.kernel ∷ ks) (none_back n nodes)
-
 none_can : (n : ℕ) (nodes : List Node) → CanAllGoBack (replicate n None) nodes
 none_can n [] = tt
 none_can zero (m ∷ nodes) = tt
@@ -78,11 +88,11 @@ same_room : (nodes : List Node) → HaveRoomOf nodes nodes
 same_room nodes p a b at_a at_b =
     let both : Some a ≡ Some b = sym at_a ∙ at_b in
     let one : a ≡ b = cc in
-    subst (λ (m : Node). room_of a.kernel ≤ room_of m.kernel) one (omega arith)
+    subst (λ (m : Node). room_of a.keeps ≤ room_of m.keeps) one (omega arith)
 
-pub spread_begins : (limit : ℕ) (old : List Node) (places : List ℕ) (command : Command) (told : List (Option Told)) (undos : List (Option KernelUndo)) → IsBegun limit old places command
-    → told ≡ replicate (length places) None → undos ≡ replicate (length old) None → IsSpread limit old places command 0 old told undos
-spread_begins limit old places command told undos begun told_is undos_is = record {
+pub spread_begins : (limit : ℕ) (old : List Node) (places : List ℕ) (c : Command) (start : Option ℕ) (told : List (Option Told)) (made : Made) → IsBegun limit old places c start
+    → told ≡ replicate (length places) None → made ≡ [] → IsSpread limit old places c start 0 old told made
+spread_begins limit old places c start told made begun told_is made_is = record {
   begun = begun;
   turned = record {
     numbers_are = refl;
@@ -92,24 +102,33 @@ spread_begins limit old places command told undos begun told_is undos_is = recor
     rest = λ p high. refl;
     limited = begun.graph.limited;
     few = λ list within low. absurd (omega (arith, low));
-    inside = λ low. absurd (omega (arith, low));
+    inside = λ begun_already. absurd (not_yet begun_already);
   };
   told_to = record {
     long = ap length told_is ∙ all_long None (length places);
     each = λ list within low. absurd (omega (arith, low));
     same = λ list within low none. absurd (omega (arith, low));
     others = λ list within high. none list;
-    quiet = λ high list. none list;
+    quiet = λ no list. none list;
   };
-  back = record {
-    numbers_are = refl;
-    back = ap (λ us. before_all us old) undos_is ∙ none_back (length old) old;
-    can = subst (λ us. CanAllGoBack us old) (sym undos_is) (none_can (length old) old);
-    room = same_room old;
-  };
-  waiting = λ p high within. ap (λ us. slice_get us p) undos_is ∙ all_get None (length old) p within;
+  back = subst (HaveBack old old) (sym made_is) (record {
+    lead = record {
+      numbers_are = refl;
+      back = none_back (length old) old;
+      can = none_can (length old) old;
+      room = same_room old;
+    };
+    apart = tt;
+  });
+  waiting = λ p high within. ap (λ ms. slice_get (by_place (length old) ms) p) made_is ∙ all_get None (length old) p within;
 }
   where
+    not_yet : HasBegun places start 0 → ⊥
+    not_yet h = never (subst (λ o. HasBegun places o 0) (start_about limit old places c start begun) h)
+      where
+        never : slice_index places (about c) < 0 → ⊥
+        never low = omega (arith, low)
+
     none : (list : ℕ) → slice_index_or told list None ≡ None
     none list = ap (λ ts. slice_index_or ts list None) told_is ∙ all_at None (length places) list
 
@@ -117,12 +136,12 @@ spread_begins limit old places command told undos begun told_is undos_is = recor
     nothing p n e = absurd cc
 
 -- the command came to the last place
-pub record IsDone (limit : ℕ) (old : List Node) (places : List ℕ) (command : Command) (nodes : List Node) (told : List (Option Told)) (undos : List (Option KernelUndo)) : Type 0 where
-  pub moves : unmoved limit (state_of old places) command ≡ None
-  pub state : state_of nodes places ≡ wave (state_of old places) command
-  pub told_is : AreTold (state_of old places) command told
+pub record IsDone (limit : ℕ) (old : List Node) (places : List ℕ) (c : Command) (start : Option ℕ) (nodes : List Node) (told : List (Option Told)) (made : Made) : Type 0 where
+  pub moves : unmoved limit (state_of old places) c ≡ None
+  pub state : state_of nodes places ≡ wave (state_of old places) (command c)
+  pub told_is : AreTold (state_of old places) c told
   pub graph : IsGraph limit nodes places
-  pub back : LeadBack old nodes undos
+  pub back : HaveBack old nodes made
 
 take_nodes : (nodes : List Node) (n : ℕ) → length nodes ≡ n → take n nodes ≡ nodes
 take_nodes [] zero e = refl
@@ -130,10 +149,10 @@ take_nodes [] (suc n) e = refl
 take_nodes (m ∷ nodes) zero e = absurd (omega (arith, e))
 take_nodes (m ∷ nodes) (suc n) e = ap (λ xs. m ∷ xs) (take_nodes nodes n (omega (arith, e)))
 
-pub spread_ends : (limit : ℕ) (old : List Node) (places : List ℕ) (command : Command) (nodes : List Node) (told : List (Option Told)) (undos : List (Option KernelUndo))
-    → IsSpread limit old places command (length old) nodes told undos → IsDone limit old places command nodes told undos
-spread_ends limit old places command nodes told undos h = record {
-  moves = unmoved_by limit old places command h.begun ∙ (ap (λ r. option_or r (too_long limit w)) inside ∙ few);
+pub spread_ends : (limit : ℕ) (old : List Node) (places : List ℕ) (c : Command) (start : Option ℕ) (nodes : List Node) (told : List (Option Told)) (made : Made)
+    → IsSpread limit old places c start (length old) nodes told made → IsDone limit old places c start nodes told made
+spread_ends limit old places c start nodes told made h = record {
+  moves = unmoved_by limit old places c start h.begun ∙ (ap (λ r. option_or r (too_long limit w)) inside ∙ few);
   state = state;
   told_is = record {
     long = h.told_to.long ∙ sym (long_state old places);
@@ -143,8 +162,8 @@ spread_ends limit old places command nodes told undos h = record {
     few_lists = g.few_lists;
     few = g.few;
     placed = placed;
-    ordered = subst IsOrdered (sym state) (wave_ordered s command g.ordered);
-    order = ap turns state ∙ (wave_turns s command ∙ (g.order ∙ sym t.numbers_are));
+    ordered = subst IsOrdered (sym state) (wave_ordered s (command c) g.ordered);
+    order = ap turns state ∙ (wave_turns s (command c) ∙ (g.order ∙ sym t.numbers_are));
     settled = subst (λ xs. AreSettled xs places) (take_nodes nodes (length old) long_nodes) t.settled;
     limited = t.limited;
     within = ap (too_long limit) state ∙ few;
@@ -156,12 +175,12 @@ spread_ends limit old places command nodes told undos h = record {
     s = state_of old places
 
     w : State
-    w = wave s command
+    w = wave s (command c)
 
     g : IsGraph limit old places
     g = h.begun.graph
 
-    t : AreTurned limit old places command (length old) nodes
+    t : AreTurned limit old places c start (length old) nodes
     t = h.turned
 
     long_numbers : (ns : List Node) → length (numbers ns) ≡ length ns
@@ -178,18 +197,19 @@ spread_ends limit old places command nodes told undos h = record {
     placed : (list : ℕ) → list < length places → IsPlaced nodes places list
     placed list within = record { within = within; there = subst (λ xs. slice_get xs (slice_index places list) ≡ Some list) (sym t.numbers_are) (g.placed list within).there }
 
-    inside : refusal s command ≡ None
-    inside = t.inside (place_low (origin command) (omega (arith, h.begun.within, long_state old places)))
+    inside : refusal s c ≡ None
+    inside = t.inside (subst (λ o. HasBegun places o (length old)) (sym (start_about limit old places c start h.begun))
+        (place_low (about c) (omega (arith, h.begun.within, long_state old places))))
 
     few : too_long limit w ≡ None
-    few = none_longer limit (table_of w) (turns w) (λ y c. front_few limit old places command (length old) nodes h.begun t y
-        (subst (λ xs. Contains xs y) (sym (ap (λ n. take n (numbers old)) (sym (long_numbers old)) ∙ take_all (numbers old))) (subst (λ xs. Contains xs y) (wave_turns s command ∙ g.order) c)))
+    few = none_longer limit (table_of w) (turns w) (λ y among. front_few limit old places c start (length old) nodes h.begun t y
+        (subst (λ xs. Contains xs y) (sym (ap (λ n. take n (numbers old)) (sym (long_numbers old)) ∙ take_all (numbers old))) (subst (λ xs. Contains xs y) (wave_turns s (command c) ∙ g.order) among)))
 
     same : (list : ℕ) → list < length w → own_at (state_of nodes places) list ≡ own_at w list
     same list within =
-        let low : list < length places = omega (arith, within, long_wave old places command) in
+        let low : list < length places = omega (arith, within, long_wave old places c) in
         let n = node_of nodes (slice_index places list) list (placed list low).there in
         own_at_state nodes places list low ∙ (ap own_of_node n.is ∙ (t.own (slice_index places list) n.node (place_low list low) n.is ∙ ap (own_at w) n.same))
 
     state : state_of nodes places ≡ w
-    state = same_state (state_of nodes places) w (long_state nodes places ∙ sym (long_wave old places command)) same
+    state = same_state (state_of nodes places) w (long_state nodes places ∙ sym (long_wave old places c)) same

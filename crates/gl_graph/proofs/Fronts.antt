@@ -1,23 +1,18 @@
 -- What a list shows by the nodes at the front, and by all.
-use Rattle.std.proofs.Common.{◌≡◌, ◌∙◌, ℕ, zero, suc, Bool, true, false, ltb, ◌<◌, ◌≤◌, List, [], ◌∷◌, length, map, take, refl, ap, sym, subst, arith, inl, inr}
+use Rattle.std.proofs.Common.{◌≡◌, ◌∙◌, ℕ, zero, suc, Bool, true, false, ltb, ◌<◌, ◌≤◌, List, [], ◌∷◌, length, take, refl, ap, sym, subst, arith}
 use Rattle.std.specs.Prelude.{Some, slice_get, slice_index, unwrap_or}
 use Rattle.std.specs.List.{Contains}
 use Rattle.std.proofs.lemmas.Option.{slice_get_past}
 use Rattle.std.proofs.lemmas.List.FromFn.{length-map-range_with_len}
-use Rattle.spec_order.proofs.Members.{Contains-cons_cases, Contains-here}
-use Rattle.spec_value.specs.Tree.{Tree}
-use Rattle.spec_lang.specs.Matcher.{accepts}
-use Rattle.spec_lang.specs.Func.{eval}
 use Rattle.std.proofs.lemmas.Bool.{ltb-true, ltb-false}
 use Rattle.spec_states.specs.State.{State, inputs, own_at, turns}
 use Rattle.spec_states.specs.Laws.{IsOrdered}
-use Rattle.spec_states.specs.Shown.{view, shown, shows_in, settled, nothing_shown, table_of}
-use Rattle.spec_states.proofs.Views.{view_local, views_of_state, length-table_of}
-use Rattle.gl_graph.specs.declared.kernel.Kernel.{Kernel}
-use Rattle.gl_graph.specs.declared.kernel.Kernel.TheVariants.{Source, Filter, Range, Function}
+use Rattle.spec_states.specs.Shown.{shown_of, shown, shows_in, settled, nothing_shown, table_of}
+use Rattle.spec_states.proofs.Views.{IsInward, shown_local, shown_in, length-table_of}
 use Rattle.gl_graph.specs.declared.node.Node.{Node}
 use Rattle.gl_graph.specs.Nodes.{own_of, own_in, state_of, numbers, shown_by, OnInput, IsPlaced, AreInTurn, IsSettled, AreSettled, StandsFor}
 use Rattle.gl_graph.specs.Graph.{IsGraph}
+use Rattle.gl_graph.proofs.Plain.{inward, each_input, stands_local}
 use Rattle.gl_graph.proofs.Showing.{turn_shows, placed_before}
 
 -- the node of a number
@@ -30,19 +25,6 @@ pub node_of : (nodes : List Node) (place list : ℕ) → slice_get (numbers node
 node_of [] place list e = absurd cc
 node_of (n ∷ nodes) zero list e = record { node = n; is = refl; same = cc }
 node_of (n ∷ nodes) (suc place) list e = let h = node_of nodes place list e in record { node = h.node; is = h.is; same = h.same }
-
-one : (P : ℕ → Type 0) (input i : ℕ) → P input → Contains (input ∷ []) i → P i
-one P input i h c = elim (Contains-cons_cases input [] i c) [
-  | inl e ↦ subst P e h
-  | inr nothing ↦ absurd (omega (arith, nothing.1))
-]
-
--- said of each input
-pub each_input : (P : ℕ → Type 0) (kernel : Kernel) (i : ℕ) → OnInput P kernel → Contains (inputs (own_of kernel)) i → P i
-each_input P (Source k) i h c = absurd (omega (arith, c.1))
-each_input P (Filter input k) i h c = one P input i h c
-each_input P (Range input k) i h c = one P input i h c
-each_input P (Function input k) i h c = one P input i h c
 
 pub get_node_front : (nodes : List Node) (n k : ℕ) (node : Node) → slice_get (take n nodes) k ≡ Some node → (slice_get nodes k ≡ Some node) × (k < n)
 get_node_front nodes zero k node e = absurd cc
@@ -76,7 +58,7 @@ front_turns nodes places n turns place node is =
     record {
       within = turn.within;
       placed = turn.placed;
-      behind = subst (λ xs. OnInput (IsPlaced xs places) node.kernel) (sym (take_lower nodes place n (omega (arith, lower)))) turn.behind;
+      behind = subst (λ xs. OnInput (IsPlaced xs places) node.keeps) (sym (take_lower nodes place n (omega (arith, lower)))) turn.behind;
     }
 
 placed_lower : (nodes : List Node) (places : List ℕ) (p n i : ℕ) → p ≤ n → IsPlaced (take p nodes) places i → IsPlaced (take n nodes) places i
@@ -96,14 +78,14 @@ front_shows nodes places n list turns placed = by_place (suc (slice_index places
         let lower : p < n = found.1 in
         let before = shown_by (take n nodes) places in
         let after = shown_by nodes places in
-        let short : before node.list ≡ view (own_of node.kernel) before = turn_shows (take n nodes) places p node (front_turns nodes places n turns) h.is in
-        let long : after node.list ≡ view (own_of node.kernel) after = turn_shows nodes places p node turns found.0 in
-        let inner : (j : ℕ) → Contains (inputs (own_of node.kernel)) j → before j ≡ after j =
+        let short : before node.list ≡ shown_of (own_of node.keeps) before = turn_shows (take n nodes) places p node (front_turns nodes places n turns) h.is in
+        let long : after node.list ≡ shown_of (own_of node.keeps) after = turn_shows nodes places p node turns found.0 in
+        let inner : (j : ℕ) → Contains (inputs (own_of node.keeps)) j → before j ≡ after j =
         λ j c.
-        let there : IsPlaced (take p nodes) places j = each_input (IsPlaced (take p nodes) places) node.kernel j (turns p node found.0).behind c in
+        let there : IsPlaced (take p nodes) places j = each_input (IsPlaced (take p nodes) places) node.keeps j (turns p node found.0).behind c in
         let below_p : slice_index places j < p = (placed_before nodes places p j there).1 in
         by_place m j (omega (arith, below, below_p)) (placed_lower nodes places p n j (omega (arith, lower)) there) in
-        subst (λ l. before l ≡ after l) h.same (short ∙ (view_local (own_of node.kernel) before after inner ∙ sym long))
+        subst (λ l. before l ≡ after l) h.same (short ∙ (shown_local (own_of node.keeps) (inward node.keeps) before after inner ∙ sym long))
 
 -- what the nodes of a graph show is what its state shows
 pub graph_shows : (limit : ℕ) (nodes : List Node) (places : List ℕ) (list : ℕ) → IsGraph limit nodes places → shown_by nodes places list ≡ shown (state_of nodes places) list
@@ -123,16 +105,9 @@ placed_few nodes places list settled placed =
     let h = node_of nodes (slice_index places list) list placed.there in
     subst (λ l. length (shown_by nodes places l) ≤ 2147483647) h.same (settled (slice_index places list) h.node h.is).few
 
--- what a kernel stands for goes by what its input shows
-pub stands_same : (kernel : Kernel) (f g : ℕ → List Tree) → ((i : ℕ) → Contains (inputs (own_of kernel)) i → f i ≡ g i) → StandsFor kernel f → StandsFor kernel g
-stands_same (Source k) f g same h = tt
-stands_same (Filter input k) f g same h = h ∙ ap (map (accepts k.matcher)) (same input (Contains-here input [] input refl))
-stands_same (Range input k) f g same h = h ∙ ap length (same input (Contains-here input [] input refl))
-stands_same (Function input k) f g same h = h ∙ ap (map (eval k.func)) (same input (Contains-here input [] input refl))
-
 -- one node more that stands for what its input shows
 pub settled_more : (nodes : List Node) (places : List ℕ) (n : ℕ) (node : Node) → AreInTurn nodes places → AreSettled (take n nodes) places → slice_get nodes n ≡ Some node
-    → StandsFor node.kernel (shown_by (take n nodes) places) → length (view (own_of node.kernel) (shown_by (take n nodes) places)) ≤ 2147483647 → AreSettled (take (suc n) nodes) places
+    → StandsFor node.keeps (shown_by (take n nodes) places) → length (shown_of (own_of node.keeps) (shown_by (take n nodes) places)) ≤ 2147483647 → AreSettled (take (suc n) nodes) places
 settled_more nodes places n node turns settled is stands few place other at = by_place (ltb place n) refl
   where
     more : AreInTurn (take (suc n) nodes) places
@@ -153,8 +128,8 @@ settled_more nodes places n node turns settled is stands few place other at = by
         record { within = turn.within; there = subst (λ p. slice_get (numbers (take n nodes)) p ≡ Some other.list) (sym turn.placed) (number_at (take n nodes) place other there) } in
         record {
           turn = more place other at;
-          stands = stands_same other.kernel (shown_by (take n nodes) places) (shown_by (take (suc n) nodes) places)
-              (λ i c. same i (placed_lower nodes places place n i (omega (arith, lower)) (each_input (IsPlaced (take place nodes) places) other.kernel i turn.behind c))) was.stands;
+          stands = stands_local other.keeps (shown_by (take n nodes) places) (shown_by (take (suc n) nodes) places)
+              (λ i c. same i (placed_lower nodes places place n i (omega (arith, lower)) (each_input (IsPlaced (take place nodes) places) other.keeps i turn.behind c))) was.stands;
           few = subst (λ xs. length xs ≤ 2147483647) (same other.list here) was.few;
         }
 
@@ -162,15 +137,15 @@ settled_more nodes places n node turns settled is stands few place other at = by
     new e =
         let one : other ≡ node = (let both : Some other ≡ Some node = sym found.0 ∙ (ap (λ p. slice_get nodes p) e ∙ is) in cc) in
         let turn = turns place other found.0 in
-        let fit : (i : ℕ) → Contains (inputs (own_of other.kernel)) i → shown_by (take n nodes) places i ≡ shown_by (take (suc n) nodes) places i =
-        λ i c. same i (placed_lower nodes places place n i (omega (arith, e)) (each_input (IsPlaced (take place nodes) places) other.kernel i turn.behind c)) in
-        let stands_here : StandsFor other.kernel (shown_by (take n nodes) places) = subst (λ (m : Node). StandsFor m.kernel (shown_by (take n nodes) places)) (sym one) stands in
-        let few_here : length (view (own_of other.kernel) (shown_by (take n nodes) places)) ≤ 2147483647 = subst (λ (m : Node). length (view (own_of m.kernel) (shown_by (take n nodes) places)) ≤ 2147483647) (sym one) few in
+        let fit : (i : ℕ) → Contains (inputs (own_of other.keeps)) i → shown_by (take n nodes) places i ≡ shown_by (take (suc n) nodes) places i =
+        λ i c. same i (placed_lower nodes places place n i (omega (arith, e)) (each_input (IsPlaced (take place nodes) places) other.keeps i turn.behind c)) in
+        let stands_here : StandsFor other.keeps (shown_by (take n nodes) places) = subst (λ (m : Node). StandsFor m.keeps (shown_by (take n nodes) places)) (sym one) stands in
+        let few_here : length (shown_of (own_of other.keeps) (shown_by (take n nodes) places)) ≤ 2147483647 = subst (λ (m : Node). length (shown_of (own_of m.keeps) (shown_by (take n nodes) places)) ≤ 2147483647) (sym one) few in
         record {
           turn = more place other at;
-          stands = stands_same other.kernel (shown_by (take n nodes) places) (shown_by (take (suc n) nodes) places) fit stands_here;
+          stands = stands_local other.keeps (shown_by (take n nodes) places) (shown_by (take (suc n) nodes) places) fit stands_here;
           few = subst (λ xs. length xs ≤ 2147483647)
-              (view_local (own_of other.kernel) (shown_by (take n nodes) places) (shown_by (take (suc n) nodes) places) fit ∙ sym (turn_shows (take (suc n) nodes) places place other more at)) few_here;
+              (shown_local (own_of other.keeps) (inward other.keeps) (shown_by (take n nodes) places) (shown_by (take (suc n) nodes) places) fit ∙ sym (turn_shows (take (suc n) nodes) places place other more at)) few_here;
         }
 
     by_place : (t : Bool) → ltb place n ≡ t → IsSettled (take (suc n) nodes) places place other
@@ -178,10 +153,10 @@ settled_more nodes places n node turns settled is stands few place other at = by
     by_place false e = let high : n ≤ place = ltb-false place n e in let low : place < suc n = found.1 in new (omega (arith, high, low))
 
 -- where the nodes keep what the lists of an ordered state keep, they show what these show
-pub agrees : (nodes : List Node) (places : List ℕ) (s : State) → AreInTurn nodes places → IsOrdered s → length s ≡ length places
-    → ((p : ℕ) (n : Node) → slice_get nodes p ≡ Some n → own_of n.kernel ≡ own_at s n.list)
+pub agrees : (nodes : List Node) (places : List ℕ) (s : State) → AreInTurn nodes places → IsOrdered s → IsInward s → length s ≡ length places
+    → ((p : ℕ) (n : Node) → slice_get nodes p ≡ Some n → own_of n.keeps ≡ own_at s n.list)
     → (list : ℕ) → IsPlaced nodes places list → shown_by nodes places list ≡ shown s list
-agrees nodes places s turns ordered long own list placed = by_place (suc (slice_index places list)) list (omega arith) placed
+agrees nodes places s turns ordered plain long own list placed = by_place (suc (slice_index places list)) list (omega arith) placed
   where
     by_place : (m i : ℕ) → slice_index places i < m → IsPlaced nodes places i → shown_by nodes places i ≡ shown s i
     by_place zero i below at = absurd (omega (arith, below))
@@ -190,15 +165,15 @@ agrees nodes places s turns ordered long own list placed = by_place (suc (slice_
         let h = node_of nodes p i at.there in
         let node = h.node in
         let turn = turns p node h.is in
-        let inner : (j : ℕ) → Contains (inputs (own_of node.kernel)) j → shown_by nodes places j ≡ shown s j =
+        let inner : (j : ℕ) → Contains (inputs (own_of node.keeps)) j → shown_by nodes places j ≡ shown s j =
         λ j c.
-        let there : IsPlaced (take p nodes) places j = each_input (IsPlaced (take p nodes) places) node.kernel j turn.behind c in
+        let there : IsPlaced (take p nodes) places j = each_input (IsPlaced (take p nodes) places) node.keeps j turn.behind c in
         let before = placed_before nodes places p j there in
         let below_p : slice_index places j < p = before.1 in
         by_place m j (omega (arith, below, below_p)) before.0 in
         let within : node.list < length s = (let low : node.list < length places = turn.within in omega (arith, low, long)) in
         let here : shown_by nodes places node.list ≡ shown s node.list =
         turn_shows nodes places p node turns h.is
-        ∙ (view_local (own_of node.kernel) (shown_by nodes places) (shown s) inner
-        ∙ (ap (λ o. view o (shown s)) (own p node h.is) ∙ sym (views_of_state s ordered node.list within))) in
+        ∙ (shown_local (own_of node.keeps) (inward node.keeps) (shown_by nodes places) (shown s) inner
+        ∙ (ap (λ o. shown_of o (shown s)) (own p node h.is) ∙ sym (shown_in s ordered plain node.list within))) in
         subst (λ l. shown_by nodes places l ≡ shown s l) h.same here

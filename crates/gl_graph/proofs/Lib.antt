@@ -1,9 +1,9 @@
+pub mod Plain
 pub mod Showing
 pub mod Editing
 pub mod Fronts
 pub mod Opening
 pub mod Places
-pub mod Depending
 pub mod Building
 pub mod Turning
 pub mod Starting
@@ -20,5 +20,5 @@ pub mod Telling
 pub mod Refusing
 pub mod Ending
 pub mod Stepping
-pub mod Behind
 pub mod Splitting
+pub mod Following

@@ -1,51 +1,45 @@
 -- Why a command makes no wave.
-use Rattle.std.proofs.Common.{◌≡◌, ◌∙◌, ℕ, zero, suc, ◌<◌, ◌≤◌, List, [], ◌∷◌, length, take, refl, ap, sym, subst, arith}
-use Rattle.std.specs.Prelude.{Some, None, slice_get}
+use Rattle.std.proofs.Common.{◌≡◌, ◌≢◌, ◌∙◌, ℕ, zero, suc, ◌<◌, ◌≤◌, List, [], ◌∷◌, length, take, refl, ap, sym, subst, arith, inl, inr}
+use Rattle.std.specs.Prelude.{Option, Some, None, slice_get}
 use Rattle.std.specs.Option.{option_or}
 use Rattle.std.specs.List.{Contains}
 use Rattle.spec_value.specs.Tree.{Tree}
 use Rattle.gl_lines.specs.declared.plan.Command.{Command}
 use Rattle.gl_lines.specs.declared.reply.Reply.TheVariants as reply
-use Rattle.spec_order.specs.Turns.{turns as turns_by}
-use Rattle.spec_plans.specs.Plan.{origin}
-use Rattle.spec_states.specs.State.{Own, State, source, filtering, ranging, mapping, unbuilt, own_at, edges_of, turns}
-use Rattle.spec_states.specs.Shown.{view, shown, table_of}
-use Rattle.spec_states.specs.Wave.{kept_after, wave}
-use Rattle.spec_states.specs.Step.{contents_len, first_longer, refusal, too_long, unmoved}
-use Rattle.spec_states.proofs.Views.{views_of_state, wave_edges, wave_ordered}
+use Rattle.spec_plans.specs.Plan.{origin as about}
+use Rattle.spec_states.specs.State.{Own, State, inputs, own_at, turns}
+use Rattle.spec_states.specs.Shown.{shown_of, shown, table_of}
+use Rattle.spec_states.specs.Wave.{command, kept_after, wave}
+use Rattle.spec_states.specs.Step.{first_longer, refusal, refused_by, too_long, unmoved}
+use Rattle.spec_states.proofs.Views.{Inward, shown_local, shown_in, wave_turns, wave_ordered, kept_after_inputs}
 use Rattle.gl_graph.specs.declared.node.Node.{Node}
 use Rattle.gl_delta.specs.Told.{Told}
-use Rattle.gl_graph.specs.declared.undo.KernelUndo.{KernelUndo}
-use Rattle.gl_graph.specs.declared.wave.Refused.{Refused}
-use Rattle.gl_graph.specs.declared.wave.Refused.TheVariants.{OutOfRange, TooLong, Memory}
+use Rattle.gl_graph.specs.declared.keeps.KeepsUndo.{KeepsUndo}
+use Rattle.gl_graph.specs.declared.graph.Refused.{Refused}
+use Rattle.gl_graph.specs.declared.graph.Refused.TheVariants.{OutOfRange, TooLong, Memory}
 use Rattle.gl_graph.specs.Nodes.{own_of, numbers, state_of, shown_by}
-use Rattle.gl_graph.specs.Commands.{Suits}
 use Rattle.gl_graph.specs.Waves.{IsRefused}
-use Rattle.gl_graph.specs.Spread.{IsBegun, AreTurned, IsStopped, IsOver}
+use Rattle.gl_graph.specs.Spread.{IsBegun, AreTurned, AreToldTo, IsLong, IsStopped, IsOver}
+use Rattle.gl_graph.proofs.Plain.{long_state, own_plain, state_plain, state_sound, kept_local}
 use Rattle.gl_graph.proofs.Showing.{turns_of_settled}
 use Rattle.gl_graph.proofs.Fronts.{node_of, number_at}
 use Rattle.gl_graph.proofs.Starting.{longer_at}
 use Rattle.gl_graph.proofs.Turning.{at_of}
-use Rattle.gl_graph.proofs.Setting.{set_long}
-use Rattle.gl_graph.proofs.Waving.{own_of_origin, refusal_is, unmoved_is}
-use Rattle.gl_graph.proofs.Nexting.{IsNext, long_state, long_wave}
+use Rattle.gl_graph.proofs.Waving.{own_of_start, own_of_other, unmoved_is, wave_plain}
+use Rattle.gl_graph.proofs.Nexting.{IsNext, long_wave, is_start, isnt_start, told_late}
 use Rattle.gl_graph.proofs.Spreading.{IsOnBy, on_shows}
 
--- a wave leaves the dependency order
-pub wave_turns : (s : State) (command : Command) → turns (wave s command) ≡ turns s
-wave_turns s command = ap (λ n. turns_by n (edges_of (wave s command))) (set_long s (origin command) _) ∙ ap (turns_by (length s)) (wave_edges s command)
-
 -- none of the first lists in dependency order is too long
-pub front_few : (limit : ℕ) (old : List Node) (places : List ℕ) (command : Command) (q : ℕ) (nodes : List Node) → IsBegun limit old places command → AreTurned limit old places command q nodes
-    → (list : ℕ) → Contains (take q (numbers old)) list → length (shown (wave (state_of old places) command) list) ≤ limit
-front_few limit old places command q nodes begun are list c =
-    let at = at_of (take q (numbers old)) list c in
+pub front_few : (limit : ℕ) (old : List Node) (places : List ℕ) (c : Command) (start : Option ℕ) (q : ℕ) (nodes : List Node) → IsBegun limit old places c start → AreTurned limit old places c start q nodes
+    → (list : ℕ) → Contains (take q (numbers old)) list → length (shown (wave (state_of old places) (command c)) list) ≤ limit
+front_few limit old places c start q nodes begun are list among =
+    let at = at_of (take q (numbers old)) list among in
     let found = front_at (numbers old) q at.place list at.is in
     let h = node_of old at.place list found.0 in
     let turn = turns_of_settled old places begun.graph.settled at.place h.node h.is in
     let within : h.node.list < length places = turn.within in
     let low : at.place < q = found.1 in
-    subst (λ l. length (shown (wave (state_of old places) command) l) ≤ limit) h.same (are.few h.node.list within (omega (arith, low, turn.placed)))
+    subst (λ l. length (shown (wave (state_of old places) (command c)) l) ≤ limit) h.same (are.few h.node.list within (omega (arith, low, turn.placed)))
   where
     front_at : (xs : List ℕ) (n k x : ℕ) → slice_get (take n xs) k ≡ Some x → (slice_get xs k ≡ Some x) × (k < n)
     front_at xs zero k x e = absurd cc
@@ -53,70 +47,85 @@ front_few limit old places command q nodes begun are list c =
     front_at (y ∷ ys) (suc n) zero x e = (e, omega arith)
     front_at (y ∷ ys) (suc n) (suc k) x e = let h = front_at ys n k x e in (h.0, (let lower : k < n = h.1 in omega (arith, lower)))
 
-pub unmoved_by : (limit : ℕ) (old : List Node) (places : List ℕ) (command : Command) → IsBegun limit old places command
-    → unmoved limit (state_of old places) command ≡ option_or (refusal (state_of old places) command) (too_long limit (wave (state_of old places) command))
-unmoved_by limit old places command begun =
+pub unmoved_by : (limit : ℕ) (old : List Node) (places : List ℕ) (c : Command) (start : Option ℕ) → IsBegun limit old places c start
+    → unmoved limit (state_of old places) c ≡ option_or (refusal (state_of old places) c) (too_long limit (wave (state_of old places) (command c)))
+unmoved_by limit old places c start begun =
     let s : State = state_of old places in
-    unmoved_is limit s command (own_at s (origin command)) begun.suits
+    unmoved_is limit s c (own_at s (about c)) begun.suits
 
 -- the first list that is too long
-pub long_refused : (limit : ℕ) (old : List Node) (places : List ℕ) (command : Command) (q : ℕ) (nodes : List Node) (was : Node) → IsBegun limit old places command
-    → AreTurned limit old places command q nodes → IsNext old places command q nodes was → refusal (state_of old places) command ≡ None
-    → limit < length (shown (wave (state_of old places) command) was.list)
-    → unmoved limit (state_of old places) command ≡ Some (reply.TooLong was.list (length (shown (wave (state_of old places) command) was.list)))
-long_refused limit old places command q nodes was begun are next inside more =
+pub long_refused : (limit : ℕ) (old : List Node) (places : List ℕ) (c : Command) (start : Option ℕ) (q : ℕ) (nodes : List Node) (was : Node) → IsBegun limit old places c start
+    → AreTurned limit old places c start q nodes → IsNext old places c q nodes was → refusal (state_of old places) c ≡ None
+    → limit < length (shown (wave (state_of old places) (command c)) was.list)
+    → unmoved limit (state_of old places) c ≡ Some (reply.TooLong was.list (length (shown (wave (state_of old places) (command c)) was.list)))
+long_refused limit old places c start q nodes was begun are next inside more =
     let s : State = state_of old places in
-    let w : State = wave s command in
-    let order : turns w ≡ numbers old = wave_turns s command ∙ begun.graph.order in
-    unmoved_by limit old places command begun
+    let w : State = wave s (command c) in
+    let order : turns w ≡ numbers old = wave_turns s (command c) ∙ begun.graph.order in
+    unmoved_by limit old places c start begun
     ∙ (ap (λ r. option_or r (too_long limit w)) inside
     ∙ (ap (first_longer limit (table_of w)) order
-    ∙ longer_at limit (table_of w) (numbers old) q was.list (number_at old q was next.in_old) (front_few limit old places command q nodes begun are) more))
+    ∙ longer_at limit (table_of w) (numbers old) q was.list (number_at old q was next.in_old) (front_few limit old places c start q nodes begun are) more))
 
--- only a source has elements of its own
-kept_len : (limit : ℕ) (command : Command) (own : Own) (shows : ℕ → List Tree) → limit < contents_len (kept_after command own) → contents_len (kept_after command own) ≡ length (view (kept_after command own) shows)
-kept_len limit command (source xs) shows more = refl
-kept_len limit command (filtering input matcher) shows more = absurd (omega (arith, more))
-kept_len limit command (ranging input bounds) shows more = absurd (omega (arith, more))
-kept_len limit command (mapping input func) shows more = absurd (omega (arith, more))
-kept_len limit command (unbuilt all) shows more = absurd (omega (arith, more))
+-- the list where the wave begins doesn't change, or one that follows would be too long
+pub stop_refused : (limit : ℕ) (old : List Node) (places : List ℕ) (c : Command) (start : Option ℕ) (q : ℕ) (nodes : List Node) (was : Node) (told : List (Option Told)) (why : Refused) → IsBegun limit old places c start
+    → AreTurned limit old places c start q nodes → AreToldTo (state_of old places) places c start q told → IsNext old places c q nodes was
+    → IsStopped limit start (shown_by (take q nodes) places) c told was.list (own_of was.keeps) why → IsRefused limit (state_of old places) c why
+stop_refused limit old places c start q nodes was told Memory begun are to next h = tt
+stop_refused limit old places c start q nodes was told (OutOfRange index len) begun are to next h =
+    let s : State = state_of old places in
+    let mine : own_at s (about c) ≡ own_of was.keeps = ap (own_at s) (sym (is_start limit old places c start was.list begun h.0)) ∙ next.own in
+    let is : refusal s c ≡ Some (reply.OutOfRange index len) = ap (λ o. refused_by o c) mine ∙ h.1 in
+    unmoved_by limit old places c start begun ∙ ap (λ r. option_or r (too_long limit (wave s (command c)))) is
+stop_refused limit old places c start q nodes was told (TooLong number len) begun are to next h = elim h.1 [
+  | inl first ↦
+      let same : was.list ≡ about c = is_start limit old places c start was.list begun first.0 in
+      let mine : own_at s (about c) ≡ own_of was.keeps = ap (own_at s) (sym same) ∙ next.own in
+      let inside : refusal s c ≡ None = ap (λ o. refused_by o c) mine ∙ first.1.0 in
+      let keeps : own_at w was.list ≡ kept_after c shows (own_of was.keeps) =
+      own_of_start s c was.list next.within same ∙ (ap (kept_after c (shown s)) next.own ∙ kept_local c (own_of was.keeps) (shown s) shows (own_plain was.keeps)) in
+      long (kept_after c shows (own_of was.keeps)) keeps (kept_after_inputs c shows (own_of was.keeps)) inside first.1.1
+  | inr later ↦
+      let other : was.list ≢ about c = isnt_start limit old places c start was.list begun later.0 in
+      let r = later.1.0 in
+      let inside : refusal s c ≡ None = are.inside (told_late old places c start q told to r.input r.d r.told) in
+      let keeps : own_at w was.list ≡ own_of was.keeps =
+      own_of_other s c was.list (state_sound old places begun.graph.ordered) next.within other begun.suits (state_plain old places was.list) ∙ next.own in
+      long (own_of was.keeps) keeps refl inside later.1.1
+]
+  where
+    s : State
+    s = state_of old places
 
--- the list that the command is about doesn't change
-pub stop_refused : (limit : ℕ) (old : List Node) (places : List ℕ) (command : Command) (q : ℕ) (nodes : List Node) (was : Node) (why : Refused) → IsBegun limit old places command
-    → AreTurned limit old places command q nodes → IsNext old places command q nodes was → IsStopped limit command was.list (own_of was.kernel) why
-    → IsRefused limit (state_of old places) command why
-stop_refused limit old places command q nodes was Memory begun are next h = tt
-stop_refused limit old places command q nodes was (OutOfRange index len) begun are next h =
-    let s : State = state_of old places in
-    let mine : own_at s (origin command) ≡ own_of was.kernel = ap (own_at s) (sym h.0) ∙ next.own in
-    let is : refusal s command ≡ Some (reply.OutOfRange index len) = refusal_is s command (own_of was.kernel) mine (subst (Suits command) mine begun.suits) ∙ h.1 in
-    unmoved_by limit old places command begun ∙ ap (λ r. option_or r (too_long limit (wave s command))) is
-stop_refused limit old places command q nodes was (TooLong number len) begun are next h =
-    let s : State = state_of old places in
-    let w : State = wave s command in
-    let mine : own_at s (origin command) ≡ own_of was.kernel = ap (own_at s) (sym h.0) ∙ next.own in
-    let long = h.1.1 in
-    let inside : refusal s command ≡ None = refusal_is s command (own_of was.kernel) mine (subst (Suits command) mine begun.suits) ∙ long.inside in
-    let after : was.list < length w = omega (arith, next.within, long_wave old places command, long_state old places) in
-    let shows : shown w was.list ≡ view (kept_after command (own_of was.kernel)) (shown w) =
-    views_of_state w (wave_ordered s command begun.graph.ordered) was.list after
-    ∙ ap (λ o. view o (shown w)) (own_of_origin s command was.list next.within h.0 ∙ ap (kept_after command) next.own) in
-    let over : limit < contents_len (kept_after command (own_of was.kernel)) = omega (arith, long.past, long.len_is) in
-    let same : len ≡ length (shown w was.list) = long.len_is ∙ (kept_len limit command (own_of was.kernel) (shown w) over ∙ ap length (sym shows)) in
-    let more : limit < length (shown w was.list) = omega (arith, long.past, same) in
-    long_refused limit old places command q nodes was begun are next inside more
-    ∙ (ap (λ n. Some (reply.TooLong was.list n)) (sym same) ∙ ap (λ l. Some (reply.TooLong l len)) (sym h.1.0))
+    w : State
+    w = wave s (command c)
+
+    shows : ℕ → List Tree
+    shows = shown_by (take q nodes) places
+
+    long : (own : Own) → own_at w was.list ≡ own → inputs own ≡ inputs (own_of was.keeps) → refusal s c ≡ None → IsLong limit shows own len
+        → unmoved limit s c ≡ Some (reply.TooLong number len)
+    long own keeps same inside is =
+        let after : was.list < length w = omega (arith, next.within, long_wave old places c, long_state old places) in
+        let plain : Inward own = subst Inward keeps (wave_plain old places c was.list) in
+        let now : shown_of own shows ≡ shown w was.list =
+        shown_local own plain shows (shown w) (λ i d. next.shows i (subst (λ is. Contains is i) same d))
+        ∙ (ap (λ o. shown_of o (shown w)) (sym keeps) ∙ sym (shown_in w (wave_ordered s (command c) begun.graph.ordered) (wave_plain old places c) was.list after)) in
+        let len_is : len ≡ length (shown w was.list) = is.len_is ∙ ap length now in
+        let more : limit < length (shown w was.list) = omega (arith, is.past, len_is) in
+        long_refused limit old places c start q nodes was begun are next inside more
+        ∙ (ap (λ n. Some (reply.TooLong was.list n)) (sym len_is) ∙ ap (λ l. Some (reply.TooLong l len)) (sym h.0))
 
 -- the list has become too long
-pub over_refused : (limit : ℕ) (old : List Node) (places : List ℕ) (command : Command) (q : ℕ) (nodes : List Node) (was now : Node) (done : Told × KernelUndo) (why : Refused) → IsBegun limit old places command
-    → AreTurned limit old places command q nodes → IsNext old places command q nodes was → IsOnBy old places command q nodes was now done
-    → IsOver limit was.list (length (view (own_of now.kernel) (shown_by (take q nodes) places))) why → IsRefused limit (state_of old places) command why
-over_refused limit old places command q nodes was now done (OutOfRange index len) begun are next on h = absurd h
-over_refused limit old places command q nodes was now done Memory begun are next on h = absurd h
-over_refused limit old places command q nodes was now done (TooLong number len) begun are next on h =
+pub over_refused : (limit : ℕ) (old : List Node) (places : List ℕ) (c : Command) (start : Option ℕ) (q : ℕ) (nodes : List Node) (was now : Node) (done : Told × KeepsUndo) (why : Refused) → IsBegun limit old places c start
+    → AreTurned limit old places c start q nodes → IsNext old places c q nodes was → IsOnBy old places c start q nodes was now done
+    → IsOver limit was.list (length (shown_of (own_of now.keeps) (shown_by (take q nodes) places))) why → IsRefused limit (state_of old places) c why
+over_refused limit old places c start q nodes was now done (OutOfRange index len) begun are next on h = absurd h
+over_refused limit old places c start q nodes was now done Memory begun are next on h = absurd h
+over_refused limit old places c start q nodes was now done (TooLong number len) begun are next on h =
     let s : State = state_of old places in
-    let w : State = wave s command in
-    let shows = on_shows limit old places command q nodes was now begun next on.on in
+    let w : State = wave s (command c) in
+    let shows = on_shows limit old places c start q nodes was now begun next on.on in
     let more : limit < length (shown w was.list) = subst (λ xs. limit < length xs) shows h.1.1 in
-    long_refused limit old places command q nodes was begun are next on.none more
+    long_refused limit old places c start q nodes was begun are next on.none more
     ∙ (ap (λ n. Some (reply.TooLong was.list n)) (sym (h.1.0 ∙ ap length shows)) ∙ ap (λ l. Some (reply.TooLong l len)) (sym h.0))

@@ -1,116 +1,137 @@
--- What is said of a kernel whatever its room, and the way back in more room.
-use Rattle.std.proofs.Common.{◌≡◌, ◌∙◌, ℕ, ◌≤◌, List, refl, sym, subst}
+-- What is said of a list whatever its room, and the way back in more room.
+use Rattle.std.proofs.Common.{◌≡◌, ◌∙◌, ℕ, ◌≤◌, List, refl, ap, sym, subst}
 use Rattle.spec_value.specs.Tree.{Tree}
 use Rattle.gl_kernel.proofs.Playing.{can_play_more}
-use Rattle.gl_graph.specs.declared.kernel.Kernel.{Kernel}
-use Rattle.gl_graph.specs.declared.kernel.Kernel.TheVariants.{Source, Filter, Range, Function}
-use Rattle.gl_graph.specs.declared.undo.KernelUndo.{KernelUndo}
-use Rattle.gl_graph.specs.declared.undo.KernelUndo.TheVariants as u
+use Rattle.gl_graph.specs.declared.derived.Derived.{Derived}
+use Rattle.gl_graph.specs.declared.derived.Derived.TheVariants as d
+use Rattle.gl_graph.specs.declared.derived.DerivedUndo.{DerivedUndo}
+use Rattle.gl_graph.specs.declared.derived.DerivedUndo.TheVariants as du
+use Rattle.gl_graph.specs.declared.keeps.Keeps.{Keeps}
+use Rattle.gl_graph.specs.declared.keeps.Keeps.TheVariants.{Source, Over}
+use Rattle.gl_graph.specs.declared.keeps.KeepsUndo.{KeepsUndo}
+use Rattle.gl_graph.specs.declared.keeps.KeepsUndo.TheVariants as u
+use Rattle.gl_graph.specs.Derived as derived
+use Rattle.gl_graph.specs.Derived.{of_filter, of_range, of_function, view_of_derived}
+use Rattle.spec_states.specs.State.{over}
 use Rattle.gl_graph.specs.Nodes.{own_of, OnInput, StandsFor}
 use Rattle.gl_graph.specs.Graph.{IsLimited}
-use Rattle.gl_graph.specs.Undos.{Contents, of_source, of_filter, of_range, of_function, contents, room_of, before, CanRetreat}
+use Rattle.gl_graph.specs.Undos.{Contents, of_source, of_over, contents, room_of, before, CanRetreat}
 
--- the kernel of these contents that has so much room
-abbrev with_room : ℕ → Contents → Kernel
+-- the list over one input of these contents that has so much room
+abbrev derived_with : ℕ → derived.Contents → Derived
+derived_with room (of_filter c) = d.Filter (record { matcher = c.matcher; shown = c.shown; room = room })
+derived_with room (of_range c) = d.Range c
+derived_with room (of_function c) = d.Function (record { func = c.func; values = c.values; room = room })
+
+derived_own : (o : Derived) → derived_with (derived.room_of o) (derived.contents o) ≡ o
+derived_own (d.Filter k) = refl
+derived_own (d.Range k) = refl
+derived_own (d.Function k) = refl
+
+-- what holds whatever the room
+derived_view : (r s : ℕ) (c : derived.Contents) → view_of_derived (derived_with r c) ≡ view_of_derived (derived_with s c)
+derived_view r s (of_filter c) = refl
+derived_view r s (of_range c) = refl
+derived_view r s (of_function c) = refl
+
+derived_stands : (xs : List Tree) (r s : ℕ) (c : derived.Contents) → derived.StandsFor (derived_with r c) xs → derived.StandsFor (derived_with s c) xs
+derived_stands xs r s (of_filter c) h = h
+derived_stands xs r s (of_range c) h = h
+derived_stands xs r s (of_function c) h = h
+
+derived_before : (undo : DerivedUndo) (r s : ℕ) (c : derived.Contents) → derived.before undo (derived_with r c) ≡ derived.before undo (derived_with s c)
+derived_before (du.Filter undo) r s (of_filter c) = refl
+derived_before (du.Filter undo) r s (of_range c) = refl
+derived_before (du.Filter undo) r s (of_function c) = refl
+derived_before (du.Range undo) r s (of_filter c) = refl
+derived_before (du.Range undo) r s (of_range c) = refl
+derived_before (du.Range undo) r s (of_function c) = refl
+derived_before (du.Function undo) r s (of_filter c) = refl
+derived_before (du.Function undo) r s (of_range c) = refl
+derived_before (du.Function undo) r s (of_function c) = refl
+
+derived_in_more : (undo : DerivedUndo) (r s : ℕ) (c : derived.Contents) → r ≤ s → derived.CanRetreat undo (derived_with r c)
+    → derived.CanRetreat undo (derived_with s c)
+derived_in_more (du.Filter undo) r s (of_filter c) h can = can_play_more _ r s undo.log.items c.shown h can
+derived_in_more (du.Range undo) r s (of_range c) h can = tt
+derived_in_more (du.Function undo) r s (of_function c) h can = can_play_more _ r s undo.log.items c.values h can
+derived_in_more (du.Filter undo) r s (of_range c) h can = absurd can
+derived_in_more (du.Filter undo) r s (of_function c) h can = absurd can
+derived_in_more (du.Range undo) r s (of_filter c) h can = absurd can
+derived_in_more (du.Range undo) r s (of_function c) h can = absurd can
+derived_in_more (du.Function undo) r s (of_filter c) h can = absurd can
+derived_in_more (du.Function undo) r s (of_range c) h can = absurd can
+
+-- what a list keeps of these contents that has so much room
+abbrev with_room : ℕ → Contents → Keeps
 with_room room (of_source values limit) = Source (record { values = values; limit = limit; room = room })
-with_room room (of_filter input c) = Filter input (record { matcher = c.matcher; shown = c.shown; room = room })
-with_room room (of_range input c) = Range input c
-with_room room (of_function input c) = Function input (record { func = c.func; values = c.values; room = room })
+with_room room (of_over input c) = Over input (derived_with room c)
 
-its_own : (k : Kernel) → with_room (room_of k) (contents k) ≡ k
+its_own : (k : Keeps) → with_room (room_of k) (contents k) ≡ k
 its_own (Source k) = refl
-its_own (Filter input k) = refl
-its_own (Range input k) = refl
-its_own (Function input k) = refl
+its_own (Over input o) = ap (Over input) (derived_own o)
 
--- what holds whatever the room holds of all kernels of the same contents
-carried : (P : Kernel → Type 0) → ((r s : ℕ) (c : Contents) → P (with_room r c) → P (with_room s c)) → (a b : Kernel)
+-- what holds whatever the room holds of all lists of the same contents
+carried : (P : Keeps → Type 0) → ((r s : ℕ) (c : Contents) → P (with_room r c) → P (with_room s c)) → (a b : Keeps)
     → contents a ≡ contents b → P a → P b
 carried P any a b e h =
     let here : P (with_room (room_of a) (contents a)) = subst P (sym (its_own a)) h in
     let there : P (with_room (room_of b) (contents b)) = subst (λ c. P (with_room (room_of b) c)) e (any (room_of a) (room_of b) (contents a) here) in
     subst P (its_own b) there
 
-pub own_same : (a b : Kernel) → contents a ≡ contents b → own_of a ≡ own_of b
+pub own_same : (a b : Keeps) → contents a ≡ contents b → own_of a ≡ own_of b
 own_same a b e = carried (λ k. own_of a ≡ own_of k) any a b e refl
   where
     any : (r s : ℕ) (c : Contents) → own_of a ≡ own_of (with_room r c) → own_of a ≡ own_of (with_room s c)
     any r s (of_source values limit) h = h
-    any r s (of_filter input c) h = h
-    any r s (of_range input c) h = h
-    any r s (of_function input c) h = h
+    any r s (of_over input c) h = h ∙ ap (over input) (derived_view r s c)
 
-pub stands_same : (shows : ℕ → List Tree) (a b : Kernel) → contents a ≡ contents b → StandsFor a shows
+pub stands_same : (shows : ℕ → List Tree) (a b : Keeps) → contents a ≡ contents b → StandsFor a shows
     → StandsFor b shows
 stands_same shows a b e h = carried (λ k. StandsFor k shows) any a b e h
   where
     any : (r s : ℕ) (c : Contents) → StandsFor (with_room r c) shows → StandsFor (with_room s c) shows
     any r s (of_source values limit) h = h
-    any r s (of_filter input c) h = h
-    any r s (of_range input c) h = h
-    any r s (of_function input c) h = h
+    any r s (of_over input c) h = derived_stands (shows input) r s c h
 
-pub limited_same : (limit : ℕ) (a b : Kernel) → contents a ≡ contents b → IsLimited limit a → IsLimited limit b
+pub limited_same : (limit : ℕ) (a b : Keeps) → contents a ≡ contents b → IsLimited limit a → IsLimited limit b
 limited_same limit a b e h = carried (λ k. IsLimited limit k) any a b e h
   where
     any : (r s : ℕ) (c : Contents) → IsLimited limit (with_room r c) → IsLimited limit (with_room s c)
     any r s (of_source values most) h = h
-    any r s (of_filter input c) h = h
-    any r s (of_range input c) h = h
-    any r s (of_function input c) h = h
+    any r s (of_over input c) h = h
 
-pub on_input_same : (P : ℕ → Type 0) (a b : Kernel) → contents a ≡ contents b → OnInput P a → OnInput P b
+pub on_input_same : (P : ℕ → Type 0) (a b : Keeps) → contents a ≡ contents b → OnInput P a → OnInput P b
 on_input_same P a b e h = carried (λ k. OnInput P k) any a b e h
   where
     any : (r s : ℕ) (c : Contents) → OnInput P (with_room r c) → OnInput P (with_room s c)
     any r s (of_source values limit) h = h
-    any r s (of_filter input c) h = h
-    any r s (of_range input c) h = h
-    any r s (of_function input c) h = h
+    any r s (of_over input c) h = h
 
--- an undo makes the same of kernels of the same contents
-pub before_same : (undo : KernelUndo) (a b : Kernel) → contents a ≡ contents b → before undo a ≡ before undo b
+-- an undo makes the same of lists of the same contents
+pub before_same : (undo : KeepsUndo) (a b : Keeps) → contents a ≡ contents b → before undo a ≡ before undo b
 before_same undo a b e = carried (λ k. before undo a ≡ before undo k) (λ r s c h. h ∙ any undo r s c) a b e refl
   where
-    any : (undo : KernelUndo) (r s : ℕ) (c : Contents) → before undo (with_room r c) ≡ before undo (with_room s c)
-    any (u.Source undo) r s (of_source values limit) = refl
-    any (u.Source undo) r s (of_filter input c) = refl
-    any (u.Source undo) r s (of_range input c) = refl
-    any (u.Source undo) r s (of_function input c) = refl
-    any (u.Filter undo) r s (of_source values limit) = refl
-    any (u.Filter undo) r s (of_filter input c) = refl
-    any (u.Filter undo) r s (of_range input c) = refl
-    any (u.Filter undo) r s (of_function input c) = refl
-    any (u.Range undo) r s (of_source values limit) = refl
-    any (u.Range undo) r s (of_filter input c) = refl
-    any (u.Range undo) r s (of_range input c) = refl
-    any (u.Range undo) r s (of_function input c) = refl
-    any (u.Function undo) r s (of_source values limit) = refl
-    any (u.Function undo) r s (of_filter input c) = refl
-    any (u.Function undo) r s (of_range input c) = refl
-    any (u.Function undo) r s (of_function input c) = refl
+    same_contents : (input r s : ℕ) (c : derived.Contents) → contents (Over input (derived_with r c)) ≡ contents (Over input (derived_with s c))
+    same_contents input r s (of_filter c) = refl
+    same_contents input r s (of_range c) = refl
+    same_contents input r s (of_function c) = refl
 
-in_more : (undo : KernelUndo) (r s : ℕ) (c : Contents) → r ≤ s → CanRetreat undo (with_room r c)
+    any : (undo : KeepsUndo) (r s : ℕ) (c : Contents) → before undo (with_room r c) ≡ before undo (with_room s c)
+    any (u.Source undo) r s (of_source values limit) = refl
+    any (u.Source undo) r s (of_over input c) = same_contents input r s c
+    any (u.Over undo) r s (of_source values limit) = refl
+    any (u.Over undo) r s (of_over input c) = ap (of_over input) (derived_before undo r s c)
+
+in_more : (undo : KeepsUndo) (r s : ℕ) (c : Contents) → r ≤ s → CanRetreat undo (with_room r c)
     → CanRetreat undo (with_room s c)
 in_more (u.Source undo) r s (of_source values limit) h can = record { within = can.within; can = can_play_more _ r s undo.log.items values h can.can }
-in_more (u.Filter undo) r s (of_filter input c) h can = can_play_more _ r s undo.log.items c.shown h can
-in_more (u.Range undo) r s (of_range input c) h can = tt
-in_more (u.Function undo) r s (of_function input c) h can = can_play_more _ r s undo.log.items c.values h can
-in_more (u.Source undo) r s (of_filter input c) h can = absurd can
-in_more (u.Source undo) r s (of_range input c) h can = absurd can
-in_more (u.Source undo) r s (of_function input c) h can = absurd can
-in_more (u.Filter undo) r s (of_source values limit) h can = absurd can
-in_more (u.Filter undo) r s (of_range input c) h can = absurd can
-in_more (u.Filter undo) r s (of_function input c) h can = absurd can
-in_more (u.Range undo) r s (of_source values limit) h can = absurd can
-in_more (u.Range undo) r s (of_filter input c) h can = absurd can
-in_more (u.Range undo) r s (of_function input c) h can = absurd can
-in_more (u.Function undo) r s (of_source values limit) h can = absurd can
-in_more (u.Function undo) r s (of_filter input c) h can = absurd can
-in_more (u.Function undo) r s (of_range input c) h can = absurd can
+in_more (u.Over undo) r s (of_over input c) h can = derived_in_more undo r s c h can
+in_more (u.Source undo) r s (of_over input c) h can = absurd can
+in_more (u.Over undo) r s (of_source values limit) h can = absurd can
 
 -- what can go back can do so in more room
-pub retreat_same : (undo : KernelUndo) (a b : Kernel) → contents a ≡ contents b → room_of a ≤ room_of b
+pub retreat_same : (undo : KeepsUndo) (a b : Keeps) → contents a ≡ contents b → room_of a ≤ room_of b
     → CanRetreat undo a → CanRetreat undo b
 retreat_same undo a b e more can =
     let here : CanRetreat undo (with_room (room_of a) (contents a)) = subst (λ k. CanRetreat undo k) (sym (its_own a)) can in
@@ -119,8 +140,6 @@ retreat_same undo a b e more can =
     subst (λ k. CanRetreat undo k) (its_own b) there
 
 -- what is said of each list is said of the input
-pub on_input_more : {P Q : ℕ → Type 0} → ((i : ℕ) → P i → Q i) → (k : Kernel) → OnInput P k → OnInput Q k
+pub on_input_more : {P Q : ℕ → Type 0} → ((i : ℕ) → P i → Q i) → (k : Keeps) → OnInput P k → OnInput Q k
 on_input_more f (Source k) h = h
-on_input_more f (Filter input k) h = f input h
-on_input_more f (Range input k) h = f input h
-on_input_more f (Function input k) h = f input h
+on_input_more f (Over input o) h = f input h

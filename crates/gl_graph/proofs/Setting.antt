@@ -1,19 +1,18 @@
--- Nodes of which one has another kernel.
-use Rattle.std.proofs.Common.{◌≡◌, ◌≢◌, ◌∙◌, ℕ, zero, suc, ◌<◌, ◌≤◌, Bool, true, false, List, [], ◌∷◌, length, take, refl, ap, sym, subst, arith, eqb, inl, inr}
+-- Nodes of which one keeps something else.
+use Rattle.std.proofs.Common.{◌≡◌, ◌≢◌, ◌∙◌, ℕ, zero, suc, ◌<◌, ◌≤◌, Bool, true, false, List, [], ◌∷◌, length, take, refl, ap, sym, subst, arith, eqb}
 use Rattle.std.specs.Prelude.{Option, Some, None, slice_get, slice_set, slice_index}
 use Rattle.std.specs.List.{Contains}
 use Rattle.std.proofs.lemmas.Bool.{eqb-true, eqb-false}
-use Rattle.spec_order.proofs.Members.{Contains-cons_cases}
 use Rattle.spec_states.specs.State.{inputs}
-use Rattle.gl_graph.specs.declared.kernel.Kernel.{Kernel}
-use Rattle.gl_graph.specs.declared.kernel.Kernel.TheVariants.{Source, Filter, Range, Function}
+use Rattle.gl_graph.specs.declared.keeps.Keeps.{Keeps}
 use Rattle.gl_graph.specs.declared.node.Node.{Node}
-use Rattle.gl_graph.specs.declared.undo.KernelUndo.{KernelUndo}
-use Rattle.gl_graph.specs.Nodes.{own_of, input_of, numbers, OnInput, IsPlaced, IsInTurn, AreInTurn}
+use Rattle.gl_graph.specs.declared.keeps.KeepsUndo.{KeepsUndo}
+use Rattle.gl_graph.specs.Nodes.{own_of, numbers, OnInput, IsPlaced, IsInTurn, AreInTurn}
 use Rattle.gl_graph.specs.Undos.{contents, room_of}
 use Rattle.gl_graph.specs.Waves.{before_one, before_all, CanGoBack, CanAllGoBack, HaveRoomOf}
 use Rattle.gl_graph.specs.Spread.{IsSetAt}
-use Rattle.gl_graph.proofs.Showing.{on_input, numbers_front}
+use Rattle.gl_graph.proofs.Plain.{each_input, on_inputs}
+use Rattle.gl_graph.proofs.Showing.{numbers_front}
 
 -- a list at a place of which another item was put
 pub set_here : {X : Type 0} (xs : List X) (q : ℕ) (was now : X) → slice_get xs q ≡ Some was → slice_get (slice_set xs q now) q ≡ Some now
@@ -51,37 +50,6 @@ set_numbers (n ∷ nodes) zero was now e same =
     ap (λ l. l ∷ numbers nodes) (same ∙ ap (λ (m : Node). m.list) (sym is))
 set_numbers (n ∷ nodes) (suc q) was now e same = ap (λ ls. n.list ∷ ls) (set_numbers nodes q was now e same)
 
--- the number of the list that a kernel follows, and of all its inputs
-pub on_input_by : (P : ℕ → Type 0) (kernel : Kernel) → ((input : ℕ) → input_of kernel ≡ Some input → P input) → OnInput P kernel
-on_input_by P (Source k) h = tt
-on_input_by P (Filter input k) h = h input refl
-on_input_by P (Range input k) h = h input refl
-on_input_by P (Function input k) h = h input refl
-
-one_input : (input i j : ℕ) → Some input ≡ Some j → Contains (input ∷ []) i → i ≡ j
-one_input input i j e c = elim (Contains-cons_cases input [] i c) [
-  | inl same ↦ cc
-  | inr nothing ↦ absurd (omega (arith, nothing.1))
-]
-
-pub only_input : (kernel : Kernel) (input i : ℕ) → input_of kernel ≡ Some input → Contains (inputs (own_of kernel)) i → i ≡ input
-only_input (Source k) input i e h = absurd cc
-only_input (Filter j k) input i e h = one_input j i input e h
-only_input (Range j k) input i e h = one_input j i input e h
-only_input (Function j k) input i e h = one_input j i input e h
-
-an_input : (input i : ℕ) → Contains (input ∷ []) i → Some input ≡ Some i
-an_input input i c = elim (Contains-cons_cases input [] i c) [
-  | inl same ↦ ap (λ (n : ℕ). Some n) same
-  | inr nothing ↦ absurd (omega (arith, nothing.1))
-]
-
-pub input_is : (kernel : Kernel) (i : ℕ) → Contains (inputs (own_of kernel)) i → input_of kernel ≡ Some i
-input_is (Source k) i h = absurd (omega (arith, h.1))
-input_is (Filter j k) i h = an_input j i h
-input_is (Range j k) i h = an_input j i h
-input_is (Function j k) i h = an_input j i h
-
 -- a list has its place by the numbers of nodes alone
 pub placed_by : (nodes others : List Node) (places : List ℕ) (n list : ℕ) → numbers others ≡ numbers nodes → IsPlaced (take n nodes) places list → IsPlaced (take n others) places list
 placed_by nodes others places n list same placed = record {
@@ -90,7 +58,7 @@ placed_by nodes others places n list same placed = record {
 }
 
 -- the nodes are still in turn
-pub set_turns : (nodes others : List Node) (places : List ℕ) (q : ℕ) (was now : Node) → IsSetAt q nodes others was now → input_of now.kernel ≡ input_of was.kernel
+pub set_turns : (nodes others : List Node) (places : List ℕ) (q : ℕ) (was now : Node) → IsSetAt q nodes others was now → inputs (own_of now.keeps) ≡ inputs (own_of was.keeps)
     → AreInTurn nodes places → AreInTurn others places
 set_turns nodes others places q was now set input turns p n at = by_place (eqb p q) refl
   where
@@ -100,13 +68,14 @@ set_turns nodes others places q was now set input turns p n at = by_place (eqb p
     found : slice_get (slice_set nodes q now) p ≡ Some n
     found = subst (λ xs. slice_get xs p ≡ Some n) set.is at
 
-    behind : (k m : Kernel) → input_of m ≡ input_of k → OnInput (IsPlaced (take p nodes) places) k → OnInput (IsPlaced (take p others) places) m
-    behind k m e h = on_input_by (IsPlaced (take p others) places) m (λ i is. placed_by nodes others places p i same (on_input (IsPlaced (take p nodes) places) k i (sym e ∙ is) h))
+    behind : (k m : Keeps) → inputs (own_of m) ≡ inputs (own_of k) → OnInput (IsPlaced (take p nodes) places) k → OnInput (IsPlaced (take p others) places) m
+    behind k m e h = on_inputs (IsPlaced (take p others) places) m
+        (λ i c. placed_by nodes others places p i same (each_input (IsPlaced (take p nodes) places) k i h (subst (λ is. Contains is i) e c)))
 
     there : p ≢ q → IsInTurn others places p n
     there other =
         let turn = turns p n (sym (set_there nodes q p now other) ∙ found) in
-        record { within = turn.within; placed = turn.placed; behind = behind n.kernel n.kernel refl turn.behind }
+        record { within = turn.within; placed = turn.placed; behind = behind n.keeps n.keeps refl turn.behind }
 
     here : p ≡ q → IsInTurn others places p n
     here e =
@@ -116,7 +85,7 @@ set_turns nodes others places q was now set input turns p n at = by_place (eqb p
         subst (λ m. IsInTurn others places p m) one (record {
           within = subst (λ l. l < length places) (sym set.list) turn.within;
           placed = ap (slice_index places) set.list ∙ turn.placed;
-          behind = behind was.kernel now.kernel input turn.behind;
+          behind = behind was.keeps now.keeps input turn.behind;
         })
 
     by_place : (t : Bool) → eqb p q ≡ t → IsInTurn others places p n
@@ -124,38 +93,38 @@ set_turns nodes others places q was now set input turns p n at = by_place (eqb p
     by_place false e = there (eqb-false p q e)
 
 -- what undos make of the nodes, once one has another kernel and its undo
-pub back_set : (undos : List (Option KernelUndo)) (nodes : List Node) (q : ℕ) (undo : Option KernelUndo) (was now : Node) → slice_get undos q ≡ Some None → slice_get nodes q ≡ Some was
-    → before_one undo now.kernel ≡ contents was.kernel → before_all (slice_set undos q undo) (slice_set nodes q now) ≡ before_all undos nodes
+pub back_set : (undos : List (Option KeepsUndo)) (nodes : List Node) (q : ℕ) (undo : Option KeepsUndo) (was now : Node) → slice_get undos q ≡ Some None → slice_get nodes q ≡ Some was
+    → before_one undo now.keeps ≡ contents was.keeps → before_all (slice_set undos q undo) (slice_set nodes q now) ≡ before_all undos nodes
 back_set undos [] q undo was now u e h = absurd cc
 back_set [] (n ∷ nodes) q undo was now u e h = absurd cc
 back_set (v ∷ undos) (n ∷ nodes) zero undo was now u e h =
     let is : n ≡ was = cc in
     let none : v ≡ None = cc in
-    ap (λ k. k ∷ before_all undos nodes) (h ∙ (ap (λ (m : Node). contents m.kernel) (sym is) ∙ ap (λ w. before_one w n.kernel) (sym none)))
-back_set (v ∷ undos) (n ∷ nodes) (suc q) undo was now u e h = ap (λ ks. before_one v n.kernel ∷ ks) (back_set undos nodes q undo was now u e h)
+    ap (λ k. k ∷ before_all undos nodes) (h ∙ (ap (λ (m : Node). contents m.keeps) (sym is) ∙ ap (λ w. before_one w n.keeps) (sym none)))
+back_set (v ∷ undos) (n ∷ nodes) (suc q) undo was now u e h = ap (λ ks. before_one v n.keeps ∷ ks) (back_set undos nodes q undo was now u e h)
 
-pub can_set : (undos : List (Option KernelUndo)) (nodes : List Node) (q : ℕ) (undo : Option KernelUndo) (now : Node) → CanGoBack undo now.kernel
+pub can_set : (undos : List (Option KeepsUndo)) (nodes : List Node) (q : ℕ) (undo : Option KeepsUndo) (now : Node) → CanGoBack undo now.keeps
     → CanAllGoBack undos nodes → CanAllGoBack (slice_set undos q undo) (slice_set nodes q now)
 can_set undos [] q undo now h all = none undos q
   where
-    none : (us : List (Option KernelUndo)) (k : ℕ) → CanAllGoBack (slice_set us k undo) []
+    none : (us : List (Option KeepsUndo)) (k : ℕ) → CanAllGoBack (slice_set us k undo) []
     none us k = tt
 can_set [] (n ∷ nodes) zero undo now h all = tt
 can_set [] (n ∷ nodes) (suc q) undo now h all = tt
 can_set (v ∷ undos) (n ∷ nodes) zero undo now h all = (h, all.1)
 can_set (v ∷ undos) (n ∷ nodes) (suc q) undo now h all = (all.0, can_set undos nodes q undo now h all.1)
 
-pub room_set : (old nodes : List Node) (q : ℕ) (was now : Node) → slice_get nodes q ≡ Some was → room_of was.kernel ≤ room_of now.kernel → HaveRoomOf old nodes → HaveRoomOf old (slice_set nodes q now)
+pub room_set : (old nodes : List Node) (q : ℕ) (was now : Node) → slice_get nodes q ≡ Some was → room_of was.keeps ≤ room_of now.keeps → HaveRoomOf old nodes → HaveRoomOf old (slice_set nodes q now)
 room_set old nodes q was now is more room p a b at_old at_new = by_place (eqb p q) refl
   where
-    here : p ≡ q → room_of a.kernel ≤ room_of b.kernel
+    here : p ≡ q → room_of a.keeps ≤ room_of b.keeps
     here e =
         let both : Some now ≡ Some b = sym (set_here nodes q was now is) ∙ (ap (slice_get (slice_set nodes q now)) (sym e) ∙ at_new) in
         let one : now ≡ b = cc in
-        let before : room_of a.kernel ≤ room_of was.kernel = room p a was at_old (ap (slice_get nodes) e ∙ is) in
-        let after : room_of a.kernel ≤ room_of now.kernel = omega (arith, before, more) in
-        subst (λ (m : Node). room_of a.kernel ≤ room_of m.kernel) one after
+        let before : room_of a.keeps ≤ room_of was.keeps = room p a was at_old (ap (slice_get nodes) e ∙ is) in
+        let after : room_of a.keeps ≤ room_of now.keeps = omega (arith, before, more) in
+        subst (λ (m : Node). room_of a.keeps ≤ room_of m.keeps) one after
 
-    by_place : (t : Bool) → eqb p q ≡ t → room_of a.kernel ≤ room_of b.kernel
+    by_place : (t : Bool) → eqb p q ≡ t → room_of a.keeps ≤ room_of b.keeps
     by_place true e = here (eqb-true p q e)
     by_place false e = room p a b at_old (sym (set_there nodes q p now (eqb-false p q e)) ∙ at_new)

@@ -1,32 +1,28 @@
 -- Each node in its turn shows its view of what its input shows.
-use Rattle.std.proofs.Common.{◌≡◌, ◌∙◌, ℕ, zero, suc, ◌+◌, ◌<◌, List, [], ◌∷◌, ◌++◌, length, map, option_map, take, refl, ap, sym, subst, arith, inl, inr}
-use Rattle.std.specs.Prelude.{Option, Some, None, slice_get, slice_index, unwrap_or}
+use Rattle.std.proofs.Common.{◌≡◌, ◌∙◌, ℕ, zero, suc, ◌<◌, List, [], ◌∷◌, ◌++◌, length, option_map, take, refl, ap, sym, subst, arith, inl, inr}
+use Rattle.std.specs.Prelude.{Option, Some, None, slice_get, slice_index}
 use Rattle.std.specs.List.{Contains}
 use Rattle.std.proofs.Math.Seq.{take-append_seam}
 use Rattle.std.proofs.lemmas.List.{append_assoc, map-append, length-map}
 use Rattle.std.proofs.lemmas.List.Elements.{Contains-get_or}
-use Rattle.std.proofs.lemmas.List.FromFn.{get_or-map-range_with_len, length-map-range_with_len}
-use Rattle.std.proofs.lemmas.Option.{unwrap_or-slice_get, slice_get_within, get_or_from_slice_get, slice_get-map}
+use Rattle.std.proofs.lemmas.List.FromFn.{length-map-range_with_len}
+use Rattle.std.proofs.lemmas.Option.{slice_get_within, get_or_from_slice_get, slice_get-map}
 use Rattle.spec_order.proofs.Members.{Contains-cons_cases}
 use Rattle.spec_value.specs.Tree.{Tree}
-use Rattle.spec_states.specs.State.{State, source, inputs, own_at}
-use Rattle.spec_states.specs.Shown.{view, nothing_shown}
+use Rattle.spec_states.specs.State.{State, inputs, own_at}
+use Rattle.spec_states.specs.Shown.{shown_of, nothing_shown}
 use Rattle.spec_states.proofs.Turns.{Follow}
 use Rattle.spec_states.proofs.Settling.{settled_is}
-use Rattle.spec_states.proofs.Views.{view_local}
+use Rattle.spec_states.proofs.Views.{shown_local}
 use Rattle.gl_delta.specs.declared.find.Find.{Find}
 use Rattle.gl_kernel.specs.Found.{found}
-use Rattle.gl_graph.specs.declared.kernel.Kernel.{Kernel}
-use Rattle.gl_graph.specs.declared.kernel.Kernel.TheVariants.{Source, Filter, Range, Function}
+use Rattle.gl_graph.specs.declared.keeps.Keeps.{Keeps}
+use Rattle.gl_graph.specs.declared.keeps.Keeps.TheVariants.{Source, Over}
 use Rattle.gl_graph.specs.declared.node.Node.{Node}
 use Rattle.gl_graph.specs.Nodes.{own_of, own_of_node, own_in, state_of, numbers, shown_by, input_of, input_shown, OnInput, StandsFor, IsPlaced, IsInTurn, AreInTurn, AreSettled}
+use Rattle.gl_graph.proofs.Plain.{own_at_state, state_inward, each_input, on_inputs}
 
--- what a list of the state keeps
-pub own_at_state : (nodes : List Node) (places : List ℕ) (list : ℕ) → list < length places → own_at (state_of nodes places) list ≡ own_in nodes places list
-own_at_state nodes places list within =
-    unwrap_or-slice_get (state_of nodes places) list (source []) ∙ get_or-map-range_with_len (own_in nodes places) 0 (length places) list list (source []) within (omega arith)
-
-pub own_of_turn : (nodes : List Node) (places : List ℕ) (place : ℕ) (node : Node) → slice_get nodes place ≡ Some node → IsInTurn nodes places place node → own_at (state_of nodes places) node.list ≡ own_of node.kernel
+pub own_of_turn : (nodes : List Node) (places : List ℕ) (place : ℕ) (node : Node) → slice_get nodes place ≡ Some node → IsInTurn nodes places place node → own_at (state_of nodes places) node.list ≡ own_of node.keeps
 own_of_turn nodes places place node is turn =
     own_at_state nodes places node.list turn.within ∙ ap (λ p. own_of_node (slice_get nodes p)) turn.placed ∙ ap own_of_node is
 
@@ -34,18 +30,12 @@ own_of_turn nodes places place node is turn =
 pub member_at : (xs : List ℕ) (p x : ℕ) → slice_get xs p ≡ Some x → Contains xs x
 member_at xs p x is = subst (λ y. Contains xs y) (get_or_from_slice_get xs p x 0 is) (Contains-get_or xs p 0 (slice_get_within xs p x is))
 
-input_before : (before : List Node) (places : List ℕ) (input i : ℕ) → IsPlaced before places input → Contains (input ∷ []) i → Contains (numbers before) i
-input_before before places input i placed c = elim (Contains-cons_cases input [] i c) [
-  | inl e ↦ subst (λ j. Contains (numbers before) j) e (member_at (numbers before) _ input placed.there)
-  | inr nothing ↦ absurd (omega (arith, nothing.1))
-]
-
--- the inputs of a kernel are among the nodes before it
-inputs_before : (before : List Node) (places : List ℕ) (kernel : Kernel) (i : ℕ) → OnInput (IsPlaced before places) kernel → Contains (inputs (own_of kernel)) i → Contains (numbers before) i
-inputs_before before places (Source k) i placed c = absurd (omega (arith, c.1))
-inputs_before before places (Filter input k) i placed c = input_before before places input i placed c
-inputs_before before places (Range input k) i placed c = input_before before places input i placed c
-inputs_before before places (Function input k) i placed c = input_before before places input i placed c
+-- the inputs of a list are among the nodes before it
+inputs_before : (before : List Node) (places : List ℕ) (keeps : Keeps) (i : ℕ) → OnInput (IsPlaced before places) keeps → Contains (inputs (own_of keeps)) i → Contains (numbers before) i
+inputs_before before places keeps i placed c =
+    each_input (λ j. Contains (numbers before) j) keeps i
+    (on_inputs (λ j. Contains (numbers before) j) keeps (λ j d. let there = each_input (IsPlaced before places) keeps j placed d in
+    member_at (numbers before) (slice_index places j) j there.there)) c
 
 get_at_seam : (before : List Node) (n : Node) (after : List Node) → slice_get (before ++ n ∷ after) (length before) ≡ Some n
 get_at_seam [] n after = refl
@@ -87,10 +77,10 @@ follows nodes places turns = from [] nodes refl
         let is : slice_get nodes p ≡ Some n = ap (λ xs. slice_get xs p) e ∙ get_at_seam before n ns in
         let turn : IsInTurn nodes places p n = turns p n is in
         let front : take p nodes ≡ before = ap (take p) e ∙ take-append_seam before (n ∷ ns) in
-        let own : own_at (state_of nodes places) n.list ≡ own_of n.kernel = own_of_turn nodes places p n is turn in
-        let behind : OnInput (IsPlaced before places) n.kernel = subst (λ xs. OnInput (IsPlaced xs places) n.kernel) front turn.behind in
+        let own : own_at (state_of nodes places) n.list ≡ own_of n.keeps = own_of_turn nodes places p n is turn in
+        let behind : OnInput (IsPlaced before places) n.keeps = subst (λ xs. OnInput (IsPlaced xs places) n.keeps) front turn.behind in
         let more : numbers (before ++ n ∷ []) ≡ numbers before ++ n.list ∷ [] = map-append (λ (m : Node). m.list) before (n ∷ []) in (
-          λ i c. inputs_before before places n.kernel i behind (subst (λ o. Contains (inputs o) i) own c),
+          λ i c. inputs_before before places n.keeps i behind (subst (λ o. Contains (inputs o) i) own c),
           (λ c. let h = has_node before n.list c in
               let old : slice_get nodes h.place ≡ Some h.node = ap (λ xs. slice_get xs h.place) e ∙ get_before before (n ∷ ns) h.place h.within ∙ h.is in
               let at : slice_index places n.list ≡ h.place = ap (λ l. slice_index places l) (sym h.same) ∙ (turns h.place h.node old).placed in
@@ -100,59 +90,53 @@ follows nodes places turns = from [] nodes refl
 
 -- each node shows its view
 pub turn_shows : (nodes : List Node) (places : List ℕ) (place : ℕ) (node : Node) → AreInTurn nodes places → slice_get nodes place ≡ Some node
-    → shown_by nodes places node.list ≡ view (own_of node.kernel) (shown_by nodes places)
+    → shown_by nodes places node.list ≡ shown_of (own_of node.keeps) (shown_by nodes places)
 turn_shows nodes places place node turns is =
     let s : State = state_of nodes places in
     let turn = turns place node is in
     let long : length (nothing_shown s) ≡ length places = length-map {B = List Tree} s (λ own. []) ∙ length-map-range_with_len (own_in nodes places) 0 (length places) in
     let number : slice_get (numbers nodes) place ≡ Some node.list = slice_get-map (λ (n : Node). n.list) nodes place ∙ ap (λ o. option_map (λ (n : Node). n.list) o) is in
-    settled_is [] (λ list. inputs (own_at s list)) (λ list shows. view (own_at s list) shows) (λ list f g same. view_local (own_at s list) f g same)
+    settled_is [] (λ list. inputs (own_at s list)) (λ list shows. shown_of (own_at s list) shows) (λ list f g same. shown_local (own_at s list) (state_inward nodes places list) f g same)
     (nothing_shown s) [] (numbers nodes) node.list (follows nodes places turns) (member_at (numbers nodes) place node.list number) (omega (arith, turn.within, long))
-    ∙ ap (λ o. view o (shown_by nodes places)) (own_of_turn nodes places place node is turn)
+    ∙ ap (λ o. shown_of o (shown_by nodes places)) (own_of_turn nodes places place node is turn)
 
 pub turns_of_settled : (nodes : List Node) (places : List ℕ) → AreSettled nodes places → AreInTurn nodes places
 turns_of_settled nodes places h place node is = (h place node is).turn
 
 -- what a list shows, by its node
 pub list_shows : (nodes : List Node) (places : List ℕ) (list : ℕ) (node : Node) → AreSettled nodes places → slice_get nodes (slice_index places list) ≡ Some node → node.list ≡ list
-    → shown_by nodes places list ≡ view (own_of node.kernel) (shown_by nodes places)
+    → shown_by nodes places list ≡ shown_of (own_of node.keeps) (shown_by nodes places)
 list_shows nodes places list node h is same =
-    subst (λ k. shown_by nodes places k ≡ view (own_of node.kernel) (shown_by nodes places)) same
+    subst (λ k. shown_by nodes places k ≡ shown_of (own_of node.keeps) (shown_by nodes places)) same
     (turn_shows nodes places (slice_index places list) node (turns_of_settled nodes places h) is)
 
 -- how many elements it shows
 pub len_shows : (nodes : List Node) (places : List ℕ) (list : ℕ) (node : Node) (n : ℕ) → AreSettled nodes places → slice_get nodes (slice_index places list) ≡ Some node → node.list ≡ list
-    → ((shows : ℕ → List Tree) → StandsFor node.kernel shows → n ≡ length (view (own_of node.kernel) shows)) → n ≡ length (shown_by nodes places list)
+    → ((shows : ℕ → List Tree) → StandsFor node.keeps shows → n ≡ length (shown_of (own_of node.keeps) shows)) → n ≡ length (shown_by nodes places list)
 len_shows nodes places list node n h is same len =
     len (shown_by nodes places) (h (slice_index places list) node is).stands ∙ ap length (sym (list_shows nodes places list node h is same))
 
 -- where its element stands
 pub find_shows : (nodes : List Node) (places : List ℕ) (list place : ℕ) (node : Node) (at : Option Find) → AreSettled nodes places → slice_get nodes (slice_index places list) ≡ Some node → node.list ≡ list
-    → ((shows : ℕ → List Tree) → StandsFor node.kernel shows → found at (input_shown node.kernel shows) ≡ slice_get (view (own_of node.kernel) shows) place)
-    → found at (input_shown node.kernel (shown_by nodes places)) ≡ slice_get (shown_by nodes places list) place
+    → ((shows : ℕ → List Tree) → StandsFor node.keeps shows → found at (input_shown node.keeps shows) ≡ slice_get (shown_of (own_of node.keeps) shows) place)
+    → found at (input_shown node.keeps (shown_by nodes places)) ≡ slice_get (shown_by nodes places list) place
 find_shows nodes places list place node at h is same find =
     find (shown_by nodes places) (h (slice_index places list) node is).stands
     ∙ ap (λ xs. slice_get xs place) (sym (list_shows nodes places list node h is same))
 
 -- what a source finds is none of its input's
-pub none_of_input : (kernel : Kernel) (shows : ℕ → List Tree) → input_of kernel ≡ None → input_shown kernel shows ≡ []
+pub none_of_input : (keeps : Keeps) (shows : ℕ → List Tree) → input_of keeps ≡ None → input_shown keeps shows ≡ []
 none_of_input (Source k) shows e = refl
-none_of_input (Filter input k) shows e = absurd cc
-none_of_input (Range input k) shows e = absurd cc
-none_of_input (Function input k) shows e = absurd cc
+none_of_input (Over input d) shows e = absurd cc
 
-pub some_of_input : (kernel : Kernel) (shows : ℕ → List Tree) (input : ℕ) → input_of kernel ≡ Some input → input_shown kernel shows ≡ shows input
+pub some_of_input : (keeps : Keeps) (shows : ℕ → List Tree) (input : ℕ) → input_of keeps ≡ Some input → input_shown keeps shows ≡ shows input
 some_of_input (Source k) shows input e = absurd cc
-some_of_input (Filter i k) shows input e = (let same : i ≡ input = cc in ap shows same)
-some_of_input (Range i k) shows input e = (let same : i ≡ input = cc in ap shows same)
-some_of_input (Function i k) shows input e = (let same : i ≡ input = cc in ap shows same)
+some_of_input (Over i d) shows input e = (let same : i ≡ input = cc in ap shows same)
 
 -- its input stands before it
-pub on_input : (P : ℕ → Type 0) (kernel : Kernel) (input : ℕ) → input_of kernel ≡ Some input → OnInput P kernel → P input
+pub on_input : (P : ℕ → Type 0) (keeps : Keeps) (input : ℕ) → input_of keeps ≡ Some input → OnInput P keeps → P input
 on_input P (Source k) input e h = absurd cc
-on_input P (Filter i k) input e h = (let same : i ≡ input = cc in subst P same h)
-on_input P (Range i k) input e h = (let same : i ≡ input = cc in subst P same h)
-on_input P (Function i k) input e h = (let same : i ≡ input = cc in subst P same h)
+on_input P (Over i d) input e h = (let same : i ≡ input = cc in subst P same h)
 
 pub get_front : (xs : List ℕ) (n k x : ℕ) → slice_get (take n xs) k ≡ Some x → slice_get xs k ≡ Some x
 get_front xs zero k x e = absurd cc

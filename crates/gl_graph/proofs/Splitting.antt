@@ -4,10 +4,10 @@ use Rattle.std.specs.Prelude.{Option, Some, Result, slice_get, slice_set, slice_
 use Rattle.std.proofs.Math.Seq.{take-append_seam}
 use Rattle.gl_lines.specs.declared.plan.Command.{Command}
 use Rattle.gl_delta.specs.Told.{Told}
-use Rattle.gl_graph.specs.declared.kernel.Kernel.{Kernel}
+use Rattle.gl_graph.specs.declared.keeps.Keeps.{Keeps}
 use Rattle.gl_graph.specs.declared.node.Node.{Node}
-use Rattle.gl_graph.specs.declared.undo.KernelUndo.{KernelUndo}
-use Rattle.gl_graph.specs.declared.wave.Refused.{Refused}
+use Rattle.gl_graph.specs.declared.keeps.KeepsUndo.{KeepsUndo}
+use Rattle.gl_graph.specs.declared.graph.Refused.{Refused}
 use Rattle.gl_graph.specs.Nodes.{shown_by}
 use Rattle.gl_graph.specs.Spread.{IsTried, IsTriedAt}
 use Rattle.gl_graph.proofs.Setting.{set_long}
@@ -38,19 +38,19 @@ set_back nodes front back place len now whole long len_is =
     let whole_len : len ≡ length xs = len_is ∙ (sym (set_long nodes place now) ∙ ap length same) in
     ap (λ n. take n (xs ++ drop (length xs) nodes)) whole_len ∙ (take-append_seam xs (drop (length xs) nodes) ∙ sym same)
 
-pub tried_at : (places : List ℕ) (command : Command) (deltas : List (Option Told)) (place len : ℕ) (nodes front back : List Node) (was first : Node) (new : Kernel)
-    (result : Result (Option (Told × KernelUndo)) Refused) → nodes ≡ front ++ back → front ≡ take place nodes → length front ≡ place → len ≡ length nodes → slice_get nodes place ≡ Some was → first ≡ was
-    → IsTried (shown_by front places) command deltas first.list first.kernel new result
-    → IsTriedAt places command deltas place nodes
-    (take len ((front ++ slice_set back 0 (record { list = first.list; kernel = new })) ++ drop (length (front ++ slice_set back 0 (record { list = first.list; kernel = new }))) nodes)) result
-tried_at places command deltas place len nodes front back was first new result whole front_is long len_is there same tried = record {
+pub tried_at : (start : Option ℕ) (places : List ℕ) (c : Command) (deltas : List (Option Told)) (place len : ℕ) (nodes front back : List Node) (was first : Node) (new : Keeps)
+    (result : Result (Option (Told × KeepsUndo)) Refused) → nodes ≡ front ++ back → front ≡ take place nodes → length front ≡ place → len ≡ length nodes → slice_get nodes place ≡ Some was → first ≡ was
+    → IsTried start (shown_by front places) c deltas first.list first.keeps new result
+    → IsTriedAt start places c deltas place nodes
+    (take len ((front ++ slice_set back 0 (record { list = first.list; keeps = new })) ++ drop (length (front ++ slice_set back 0 (record { list = first.list; keeps = new }))) nodes)) result
+tried_at start places c deltas place len nodes front back was first new result whole front_is long len_is there same tried = record {
   was = was;
-  now = record { list = first.list; kernel = new };
+  now = record { list = first.list; keeps = new };
   set = record {
     there = there;
-    is = set_back nodes front back place len (record { list = first.list; kernel = new }) whole long len_is;
+    is = set_back nodes front back place len (record { list = first.list; keeps = new }) whole long len_is;
     list = ap (λ (n : Node). n.list) same;
   };
-  tried = subst (λ (n : Node). IsTried (shown_by (take place nodes) places) command deltas n.list n.kernel new result) same
-      (subst (λ ns. IsTried (shown_by ns places) command deltas first.list first.kernel new result) front_is tried);
+  tried = subst (λ (n : Node). IsTried start (shown_by (take place nodes) places) c deltas n.list n.keeps new result) same
+      (subst (λ ns. IsTried start (shown_by ns places) c deltas first.list first.keeps new result) front_is tried);
 }

@@ -1,5 +1,6 @@
 -- The lists of a plan open in their order, or one is too long.
 use Rattle.std.proofs.Common.{◌≡◌, ◌∙◌, ℕ, zero, suc, ◌<◌, ◌≤◌, Bool, true, false, List, [], ◌∷◌, ◌++◌, length, map, take, refl, ap, sym, subst, arith, nat_le, if◌then◌else◌}
+use Rattle.spec_value.specs.Tree.{Tree}
 use Rattle.std.specs.Prelude.{Option, Some, None, slice_get, slice_index}
 use Rattle.std.specs.List.{Contains}
 use Rattle.std.proofs.lemmas.Bool.{le-leb, lt-leb}
@@ -9,7 +10,6 @@ use Rattle.std.proofs.lemmas.List.FromFn.{length-map-range_with_len}
 use Rattle.spec_order.specs.Edges.{AreWithin}
 use Rattle.spec_order.specs.Cycle.{HasCycle}
 use Rattle.spec_order.specs.Order.{IsOrder}
-use Rattle.spec_order.proofs.Exists.{turns-from_IsOrder}
 use Rattle.spec_order.proofs.Acyclic.{Contains-order}
 use Rattle.spec_order.proofs.Members.{Contains-here, Contains-later}
 use Rattle.gl_lines.specs.declared.plan.ListDecl.{ListDecl}
@@ -17,52 +17,73 @@ use Rattle.gl_lines.specs.declared.plan.ListKind.{ListKind}
 use Rattle.gl_lines.specs.declared.plan.ListKind.TheVariants as kinds
 use Rattle.gl_lines.specs.declared.reply.Reply.{Reply}
 use Rattle.gl_lines.specs.declared.reply.Reply.TheVariants as reply
-use Rattle.spec_plans.specs.Plan.{Plan, inputs_of, edges_from}
+use Rattle.spec_order.specs.Turns.{turns as turns_by}
+use Rattle.spec_plans.specs.Plan.{Plan, inputs_of, edges_from, list_edges}
 use Rattle.gl_plan.specs.Whole.{IsWhole}
-use Rattle.spec_states.specs.State.{State, inputs, opening_of, own_at, edges_of, turns}
-use Rattle.spec_states.specs.Shown.{Table, view, shown, shows_in, table_of}
+use Rattle.spec_states.specs.State.{Own, State, inputs, opening_of, own_at, edges_of, turns}
+use Rattle.spec_states.specs.Opening.{seen_through, shown_first, opening}
+use Rattle.spec_states.specs.Shown.{Table, shown_of, shown, shows_in, table_of}
 use Rattle.spec_states.specs.Step.{first_longer, too_long}
 use Rattle.spec_states.specs.Laws.{IsOrdered}
 use Rattle.spec_states.proofs.Turns.{ordered, turns_follow}
-use Rattle.spec_states.proofs.Views.{view_local, views_of_state, opening_edges}
-use Rattle.gl_graph.specs.declared.kernel.Kernel.{Kernel}
-use Rattle.gl_graph.specs.declared.kernel.Kernel.TheVariants.{Source, Filter, Range, Function}
+use Rattle.spec_states.proofs.Views.{Inward, IsInward, shown_local, shown_in, inputs_as_declared}
 use Rattle.gl_graph.specs.declared.node.Node.{Node}
 use Rattle.gl_graph.specs.declared.fault.BuildFault.{BuildFault}
 use Rattle.gl_graph.specs.declared.fault.BuildFault.TheVariants.{TooLong, Memory}
-use Rattle.gl_graph.specs.Nodes.{own_of, own_of_node, own_in, state_of, numbers, shown_by, OnInput, IsPlaced}
+use Rattle.gl_graph.specs.Nodes.{own_of_node, own_in, state_of, numbers, shown_by, IsPlaced}
 use Rattle.gl_graph.specs.Opening.{IsBuilt, IsKindBuilt, AreKindsBuilt}
 use Rattle.gl_graph.specs.Places.{ArePlaces}
 use Rattle.gl_graph.specs.Build.{IsOneMore, IsFault, AreOpened, AreReady, AreOpen, IsReason, opened_lists}
-use Rattle.gl_graph.proofs.Showing.{turns_of_settled, own_at_state}
+use Rattle.gl_graph.proofs.Plain.{own_at_state, on_inputs}
+use Rattle.gl_graph.proofs.Showing.{turns_of_settled}
 use Rattle.gl_graph.proofs.Fronts.{node_of, agrees}
 use Rattle.gl_graph.proofs.Building.{opened_more}
 use Rattle.gl_graph.proofs.Turning.{order_below, placed_in, follow_at, take_next, take_all, take_long, index_of_get}
 
-built_of : (P : ℕ → Type 0) (kind : ListKind) → IsKindBuilt kind → ((i : ℕ) → Contains (inputs (opening_of kind)) i → P i) → IsBuilt P kind
+built_of : (P : ℕ → Type 0) (kind : ListKind) → IsKindBuilt kind → ((i : ℕ) → Contains (inputs (seen_through kind)) i → P i) → IsBuilt P kind
 built_of P (kinds.Source rows) h f = tt
 built_of P (kinds.Filter input matcher) h f = f input (Contains-here input [] input refl)
 built_of P (kinds.Range input bounds) h f = f input (Contains-here input [] input refl)
 built_of P (kinds.Function input func) h f = f input (Contains-here input [] input refl)
-built_of P (kinds.Sorted input order) h f = absurd h
-built_of P (kinds.Unique input order) h f = absurd h
-built_of P (kinds.Grouping input order) h f = absurd h
-built_of P (kinds.Collection input kids) h f = absurd h
-built_of P (kinds.Composite members may) h f = absurd h
-built_of P (kinds.Transaction input) h f = absurd h
-built_of P (kinds.Freezable input) h f = absurd h
-built_of P (kinds.Proxy input) h f = absurd h
+built_of P other h f = absurd h
 
-on_inputs : (P : ℕ → Type 0) (kernel : Kernel) → ((i : ℕ) → Contains (inputs (own_of kernel)) i → P i) → OnInput P kernel
-on_inputs P (Source k) f = tt
-on_inputs P (Filter input k) f = f input (Contains-here input [] input refl)
-on_inputs P (Range input k) f = f input (Contains-here input [] input refl)
-on_inputs P (Function input k) f = f input (Contains-here input [] input refl)
+-- lists of the kinds that are built are sources and lists over one input
+seen_inward : (kind : ListKind) → IsKindBuilt kind → Inward (seen_through kind)
+seen_inward (kinds.Source rows) h = tt
+seen_inward (kinds.Filter input matcher) h = tt
+seen_inward (kinds.Range input bounds) h = tt
+seen_inward (kinds.Function input func) h = tt
+seen_inward other h = absurd h
+
+seen_opening : (shows : ℕ → List Tree) (kind : ListKind) → IsKindBuilt kind → opening_of shows kind ≡ seen_through kind
+seen_opening shows (kinds.Source rows) h = refl
+seen_opening shows (kinds.Filter input matcher) h = refl
+seen_opening shows (kinds.Range input bounds) h = refl
+seen_opening shows (kinds.Function input func) h = refl
+seen_opening shows other h = absurd h
+
+built_rest : (d : ListDecl) (lists : List ListDecl) → AreKindsBuilt (d ∷ lists) → AreKindsBuilt lists
+built_rest d lists h k e at = h (suc k) e at
+
+opened_inward : (lists : List ListDecl) → AreKindsBuilt lists → IsInward (opened_lists lists)
+opened_inward [] h list = tt
+opened_inward (d ∷ lists) h zero = seen_inward d.kind (h 0 d refl)
+opened_inward (d ∷ lists) h (suc list) = opened_inward lists (built_rest d lists h) list
+
+all_opening : (shows : ℕ → List Tree) (lists : List ListDecl) → AreKindsBuilt lists → map (λ (d : ListDecl). opening_of shows d.kind) lists ≡ opened_lists lists
+all_opening shows [] h = refl
+all_opening shows (d ∷ lists) h =
+    ap (λ (o : Own). o ∷ map (λ (e : ListDecl). opening_of shows e.kind) lists) (seen_opening shows d.kind (h 0 d refl))
+    ∙ ap (λ s. seen_through d.kind ∷ s) (all_opening shows lists (built_rest d lists h))
+
+-- what they open with is what a plan of them does
+pub opening_is : (p : Plan) → AreKindsBuilt p.lists → opening p ≡ opened_lists p.lists
+opening_is p h = all_opening (shown_first p) p.lists h
 
 -- what a list of these opens with
-own_opened : (lists : List ListDecl) (list : ℕ) (d : ListDecl) → slice_get lists list ≡ Some d → own_at (opened_lists lists) list ≡ opening_of d.kind
+own_opened : (lists : List ListDecl) (list : ℕ) (d : ListDecl) → slice_get lists list ≡ Some d → own_at (opened_lists lists) list ≡ seen_through d.kind
 own_opened [] list d e = absurd cc
-own_opened (c ∷ lists) zero d e = let same : c ≡ d = cc in ap (λ (x : ListDecl). opening_of x.kind) same
+own_opened (c ∷ lists) zero d e = let same : c ≡ d = cc in ap (λ (x : ListDecl). seen_through x.kind) same
 own_opened (c ∷ lists) (suc list) d e = own_opened lists list d e
 
 long_opened : (lists : List ListDecl) → length (opened_lists lists) ≡ length lists
@@ -71,17 +92,21 @@ long_opened (d ∷ lists) = ap suc (long_opened lists)
 
 -- what depends on what in it
 pub opened_edges : (lists : List ListDecl) → edges_of (opened_lists lists) ≡ edges_from 0 (map (λ (d : ListDecl). inputs_of d.kind) lists)
-opened_edges lists = opening_edges (record { limit = 0; lists = lists; listeners = []; writers = [] })
-
-pub within_edges : (lists : List ListDecl) (edges : List (ℕ × ℕ)) → IsOrdered (opened_lists lists) → edges ≡ edges_from 0 (map (λ (d : ListDecl). inputs_of d.kind) lists)
-    → AreWithin (length lists) edges
-within_edges lists edges h is =
-    let s : State = opened_lists lists in
-    subst (λ n. AreWithin n edges) (long_opened lists) (subst (AreWithin (length s)) (opened_edges lists ∙ sym is) h.within)
-
-pub no_cycle : (lists : List ListDecl) (edges : List (ℕ × ℕ)) → IsOrdered (opened_lists lists) → edges ≡ edges_from 0 (map (λ (d : ListDecl). inputs_of d.kind) lists)
-    → ¬ HasCycle edges
-no_cycle lists edges h is = subst (λ es. ¬ HasCycle es) (opened_edges lists ∙ sym is) h.acyclic
+opened_edges lists = ap (edges_from 0) (inputs_as_declared seen_through seen_inputs lists)
+  where
+    seen_inputs : (kind : ListKind) → inputs (seen_through kind) ≡ inputs_of kind
+    seen_inputs (kinds.Source rows) = refl
+    seen_inputs (kinds.Filter input matcher) = refl
+    seen_inputs (kinds.Sorted input order) = refl
+    seen_inputs (kinds.Unique input order) = refl
+    seen_inputs (kinds.Grouping input order) = refl
+    seen_inputs (kinds.Range input bounds) = refl
+    seen_inputs (kinds.Function input func) = refl
+    seen_inputs (kinds.Collection input path) = refl
+    seen_inputs (kinds.Composite members may) = refl
+    seen_inputs (kinds.Transaction input) = refl
+    seen_inputs (kinds.Freezable input) = refl
+    seen_inputs (kinds.Proxy input) = refl
 
 -- the order of a plan's lists
 pub whole_ordered : (p : Plan) → IsWhole p → IsOrdered (opened_lists p.lists)
@@ -90,27 +115,28 @@ whole_ordered p h = record {
   acyclic = subst (λ es. ¬ HasCycle es) (sym (opened_edges p.lists)) h.acyclic.lists;
 }
 
+pub plan_order : (p : Plan) (order : List ℕ) → IsWhole p → order ≡ turns_by (length p.lists) (list_edges p) → order ≡ turns (opened_lists p.lists)
+plan_order p order h is =
+    is ∙ (ap (λ n. turns_by n (list_edges p)) (sym (long_opened p.lists)) ∙ ap (turns_by (length (opened_lists p.lists))) (sym (opened_edges p.lists)))
+
+pub plan_is_order : (p : Plan) (order : List ℕ) → IsWhole p → order ≡ turns_by (length p.lists) (list_edges p) → IsOrder (length p.lists) (edges_of (opened_lists p.lists)) order
+plan_is_order p order h is =
+    let s : State = opened_lists p.lists in
+    subst (λ n. IsOrder n (edges_of s) order) (long_opened p.lists)
+    (subst (IsOrder (length s) (edges_of s)) (sym (plan_order p order h is)) (ordered s (whole_ordered p h)))
+
 -- lists in their dependency order, with their places there
-pub ready_of : (limit : ℕ) (lists : List ListDecl) (places order : List ℕ) → limit ≤ 2147483647 → length lists ≤ 256 → AreKindsBuilt lists → IsOrdered (opened_lists lists)
-    → IsOrder (length lists) (edges_of (opened_lists lists)) order → length places ≡ length lists → ArePlaces places order (length lists) → AreReady limit lists places order
-ready_of limit lists places order few few_lists built ordered_is is long are = record {
-  few_lists = few_lists;
-  few = few;
+pub ready_of : (p : Plan) (places order : List ℕ) → IsWhole p → AreKindsBuilt p.lists → order ≡ turns_by (length p.lists) (list_edges p)
+    → length places ≡ length p.lists → ArePlaces places order (length p.lists) → AreReady p.limit p.lists places order
+ready_of p places order h built is long are = record {
+  few_lists = h.few_lists;
+  few = omega (arith, h.limit.few);
   built = built;
-  ordered = ordered_is;
-  order_is =
-      let s : State = opened_lists lists in
-      turns-from_IsOrder (length s) (edges_of s) order ordered_is.within (subst (λ n. IsOrder n (edges_of s) order) (sym (long_opened lists)) is);
+  ordered = whole_ordered p h;
+  order_is = plan_order p order h is;
   long = long;
   places_are = are;
 }
-
-pub ready_by : (limit : ℕ) (lists : List ListDecl) (places order : List ℕ) (edges : List (ℕ × ℕ)) → limit ≤ 2147483647 → length lists ≤ 256 → AreKindsBuilt lists
-    → IsOrdered (opened_lists lists) → edges ≡ edges_from 0 (map (λ (d : ListDecl). inputs_of d.kind) lists) → IsOrder (length lists) edges order
-    → length places ≡ length lists → ArePlaces places order (length lists) → AreReady limit lists places order
-ready_by limit lists places order edges few few_lists built ordered_is edges_are is long are =
-    ready_of limit lists places order few few_lists built ordered_is
-    (subst (λ es. IsOrder (length lists) es order) (edges_are ∙ sym (opened_edges lists)) is) long are
 
 order_of : (limit : ℕ) (lists : List ListDecl) (places order : List ℕ) → AreReady limit lists places order → IsOrder (length lists) (edges_of (opened_lists lists)) order
 order_of limit lists places order ready =
@@ -126,7 +152,7 @@ front_placed limit lists places order nodes k list ready numbers_are c =
 
 -- what the next list follows is open
 next_inputs : (limit : ℕ) (lists : List ListDecl) (places order : List ℕ) (nodes : List Node) (k list : ℕ) (d : ListDecl) → AreReady limit lists places order
-    → numbers nodes ≡ take k order → slice_get order k ≡ Some list → slice_get lists list ≡ Some d → (i : ℕ) → Contains (inputs (opening_of d.kind)) i → IsPlaced nodes places i
+    → numbers nodes ≡ take k order → slice_get order k ≡ Some list → slice_get lists list ≡ Some d → (i : ℕ) → Contains (inputs (seen_through d.kind)) i → IsPlaced nodes places i
 next_inputs limit lists places order nodes k list d ready numbers_are here there i c =
     let s : State = opened_lists lists in
     let turn : slice_get (turns s) k ≡ Some list = subst (λ xs. slice_get xs k ≡ Some list) ready.order_is here in
@@ -148,7 +174,7 @@ next_built limit lists places order nodes k list d ready opened here there =
 
 pub next_opened : (limit : ℕ) (lists : List ListDecl) (places order : List ℕ) (nodes after : List Node) (k list : ℕ) (d : ListDecl) → AreReady limit lists places order
     → AreOpened limit (opened_lists lists) places order k nodes → slice_get order k ≡ Some list → slice_get lists list ≡ Some d
-    → IsOneMore limit places list (opening_of d.kind) nodes after → AreOpened limit (opened_lists lists) places order (suc k) after
+    → IsOneMore limit places list (seen_through d.kind) nodes after → AreOpened limit (opened_lists lists) places order (suc k) after
 next_opened limit lists places order nodes after k list d ready opened here there more =
     let s : State = opened_lists lists in
     let is = order_of limit lists places order ready in
@@ -158,10 +184,10 @@ next_opened limit lists places order nodes after k list d ready opened here ther
     let index : slice_index order k ≡ list = index_of_get order k list here in
     let below : slice_index order k < length lists = order_below (length lists) (edges_of s) order is.front k within in
     let placed : slice_index places list ≡ k = subst (λ l. slice_index places l ≡ k) index (ready.places_are k (omega (arith, within, is.whole))) in
-    let result = opened_more limit s places order nodes after list (opening_of d.kind) ready.few
+    let result = opened_more limit s places order nodes after list (seen_through d.kind) ready.few
     (subst (λ m. AreOpened limit s places order m nodes) (sym long) opened) more
     (omega (arith, below, index, ready.long)) (placed ∙ sym long) (sym (own_opened lists list d there))
-    (λ node own. on_inputs (IsPlaced nodes places) node.kernel (λ i c. next_inputs limit lists places order nodes k list d ready opened.order_is here there i (subst (λ o. Contains (inputs o) i) own c)))
+    (λ node own. on_inputs (IsPlaced nodes places) node.keeps (λ i c. next_inputs limit lists places order nodes k list d ready opened.order_is here there i (subst (λ o. Contains (inputs o) i) own c)))
     (subst (λ m. take (suc m) order ≡ take m order ++ list ∷ []) (sym long) (take_next order k list here)) in
     subst (λ m. AreOpened limit s places order (suc m) after) long result
 
@@ -196,7 +222,7 @@ none_longer limit t (y ∷ ys) few =
 opened_shows : (limit : ℕ) (lists : List ListDecl) (places order : List ℕ) (nodes : List Node) (k list : ℕ) → AreReady limit lists places order
     → AreOpened limit (opened_lists lists) places order k nodes → IsPlaced nodes places list → shown_by nodes places list ≡ shown (opened_lists lists) list
 opened_shows limit lists places order nodes k list ready opened placed =
-    agrees nodes places (opened_lists lists) (turns_of_settled nodes places opened.settled) ready.ordered (long_opened lists ∙ sym ready.long) opened.own list placed
+    agrees nodes places (opened_lists lists) (turns_of_settled nodes places opened.settled) ready.ordered (opened_inward lists ready.built) (long_opened lists ∙ sym ready.long) opened.own list placed
 
 opened_few : (limit : ℕ) (lists : List ListDecl) (places order : List ℕ) (nodes : List Node) (k : ℕ) → AreReady limit lists places order
     → AreOpened limit (opened_lists lists) places order k nodes → (list : ℕ) → Contains (take k order) list → length (shown (opened_lists lists) list) ≤ limit
@@ -208,7 +234,7 @@ opened_few limit lists places order nodes k ready opened list c =
 
 pub next_reason : (limit : ℕ) (lists : List ListDecl) (places order : List ℕ) (nodes : List Node) (k list : ℕ) (d : ListDecl) (fault : BuildFault) → AreReady limit lists places order
     → AreOpened limit (opened_lists lists) places order k nodes → slice_get order k ≡ Some list → slice_get lists list ≡ Some d
-    → IsFault limit list (length (view (opening_of d.kind) (shown_by nodes places))) fault → IsReason limit (opened_lists lists) fault
+    → IsFault limit list (length (shown_of (seen_through d.kind) (shown_by nodes places))) fault → IsReason limit (opened_lists lists) fault
 next_reason limit lists places order nodes k list d Memory ready opened here there fault = tt
 next_reason limit lists places order nodes k list d (TooLong number n) ready opened here there fault =
     let s : State = opened_lists lists in
@@ -217,9 +243,9 @@ next_reason limit lists places order nodes k list d (TooLong number n) ready ope
     let index : slice_index order k ≡ list = index_of_get order k list here in
     let below : slice_index order k < length lists = order_below (length lists) (edges_of s) order is.front k within in
     let own = own_opened lists list d there in
-    let same : view (opening_of d.kind) (shown_by nodes places) ≡ shown s list =
-    view_local (opening_of d.kind) (shown_by nodes places) (shown s) (λ i c. opened_shows limit lists places order nodes k i ready opened (next_inputs limit lists places order nodes k list d ready opened.order_is here there i c))
-    ∙ (ap (λ o. view o (shown s)) (sym own) ∙ sym (views_of_state s ready.ordered list (omega (arith, below, index, long_opened lists)))) in
+    let same : shown_of (seen_through d.kind) (shown_by nodes places) ≡ shown s list =
+    shown_local (seen_through d.kind) (seen_inward d.kind (ready.built list d there)) (shown_by nodes places) (shown s) (λ i c. opened_shows limit lists places order nodes k i ready opened (next_inputs limit lists places order nodes k list d ready opened.order_is here there i c))
+    ∙ (ap (λ o. shown_of o (shown s)) (sym own) ∙ sym (shown_in s ready.ordered (opened_inward lists ready.built) list (omega (arith, below, index, long_opened lists)))) in
     let more : limit < length (shown s list) = subst (λ xs. limit < length xs) same fault.2 in
     let long : n ≡ length (shown s list) = fault.1 ∙ ap length same in
     ap (first_longer limit (table_of s)) (sym ready.order_is)

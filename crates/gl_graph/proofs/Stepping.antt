@@ -1,27 +1,35 @@
 -- One place further: what was tried there is told, kept for the way back, or the reason why the command is refused.
-use Rattle.std.proofs.Common.{◌≡◌, ◌∙◌, ℕ, zero, suc, ◌<◌, ◌≤◌, List, [], ◌∷◌, length, take, refl, ap, sym, subst, arith}
+use Rattle.std.proofs.Common.{◌≡◌, ◌≢◌, ◌∙◌, ℕ, zero, suc, ◌<◌, ◌≤◌, List, [], ◌∷◌, ◌++◌, length, take, replicate, refl, ap, sym, subst, arith}
+use Rattle.std.proofs.lemmas.List.{length-map}
 use Rattle.spec_value.specs.Tree.{Tree}
-use Rattle.std.specs.Prelude.{Option, Some, None, Result, Ok, Err, IfErr, OnOk, OnErr, slice_get, slice_set}
+use Rattle.std.specs.Prelude.{Option, Some, None, Result, Ok, Err, IfErr, OnOk, OnErr, slice_get, slice_set, slice_index, slice_index_or}
 use Rattle.gl_lines.specs.declared.plan.Command.{Command}
 use Rattle.gl_delta.specs.Told.{Told}
-use Rattle.spec_states.specs.Shown.{view}
+use Rattle.spec_states.specs.Shown.{shown_of}
 use Rattle.gl_graph.specs.declared.node.Node.{Node}
-use Rattle.gl_graph.specs.declared.undo.KernelUndo.{KernelUndo}
-use Rattle.gl_graph.specs.declared.wave.Refused.{Refused}
+use Rattle.gl_graph.specs.declared.keeps.KeepsUndo.{KeepsUndo}
+use Rattle.gl_graph.specs.declared.graph.Refused.{Refused}
 use Rattle.gl_graph.specs.Nodes.{own_of, state_of, shown_by, StandsFor}
+use Rattle.spec_plans.specs.Plan.{origin as about}
+use Rattle.spec_states.specs.State.{own_at}
+use Rattle.gl_graph.specs.Commands.{Suits}
+use Rattle.gl_graph.specs.Graph.{IsGraph}
 use Rattle.gl_graph.specs.Undos.{contents, room_of}
-use Rattle.gl_graph.specs.Waves.{IsRefused, before_one, CanGoBack}
-use Rattle.gl_graph.specs.Spread.{IsTriedAt, IsSetAt, CanTurnAt, IsPut, IsOver, IsSpread, LeadBack}
+use Rattle.gl_graph.specs.Waves.{Made, by_place, AreApart, IsRefused, before_one, CanGoBack}
+use Rattle.gl_graph.specs.Spread.{HasBegun, IsTriedAt, IsSetAt, CanTurnAt, IsPut, IsOver, IsBegun, IsSpread, LeadBack, HaveBack}
+use Rattle.gl_graph.proofs.Plain.{long_state, on_inputs}
+use Rattle.gl_graph.proofs.Waving.{starts_at}
+use Rattle.gl_graph.proofs.Taken.{placed_last, apart_more}
 use Rattle.gl_graph.proofs.Setting.{set_here, set_there, set_long, set_numbers, set_again, back_set, can_set, room_set}
-use Rattle.gl_graph.proofs.Nexting.{IsNext, next_of, can_turn}
+use Rattle.gl_graph.proofs.Nexting.{IsNext, begun_later, next_of, can_turn}
 use Rattle.gl_graph.proofs.Spreading.{on_by, still_by, on_shows, turned_more}
 use Rattle.gl_graph.proofs.Telling.{told_still, told_put}
 use Rattle.gl_graph.proofs.Refusing.{stop_refused, over_refused}
-use Rattle.gl_graph.proofs.Ending.{shown_few}
+use Rattle.gl_graph.proofs.Ending.{shown_few, nodes_few, start_low, spread_begins}
 
--- what leads back still does, once the node at a place has another kernel and its undo
-back_more : (old nodes others : List Node) (undos : List (Option KernelUndo)) (q : ℕ) (was now : Node) (undo : Option KernelUndo) → LeadBack old nodes undos → IsSetAt q nodes others was now
-    → slice_get undos q ≡ Some None → before_one undo now.kernel ≡ contents was.kernel → CanGoBack undo now.kernel → room_of was.kernel ≤ room_of now.kernel
+-- what leads back still does, once the node at a place keeps something else and has its undo
+back_more : (old nodes others : List Node) (undos : List (Option KeepsUndo)) (q : ℕ) (was now : Node) (undo : Option KeepsUndo) → LeadBack old nodes undos → IsSetAt q nodes others was now
+    → slice_get undos q ≡ Some None → before_one undo now.keeps ≡ contents was.keeps → CanGoBack undo now.keeps → room_of was.keeps ≤ room_of now.keeps
     → LeadBack old others (slice_set undos q undo)
 back_more old nodes others undos q was now undo lead set waits back can room = subst (λ ns. LeadBack old ns (slice_set undos q undo)) (sym set.is) (record {
   numbers_are = set_numbers nodes q was now set.there set.list ∙ lead.numbers_are;
@@ -30,101 +38,133 @@ back_more old nodes others undos q was now undo lead set waits back can room = s
   room = room_set old nodes q was now set.there room lead.room;
 })
 
--- the same where it has no undo
-back_same : (old nodes others : List Node) (undos : List (Option KernelUndo)) (q : ℕ) (was now : Node) → LeadBack old nodes undos → IsSetAt q nodes others was now
-    → slice_get undos q ≡ Some None → contents now.kernel ≡ contents was.kernel → room_of was.kernel ≤ room_of now.kernel → LeadBack old others undos
-back_same old nodes others undos q was now lead set waits same room =
-    subst (LeadBack old others) (set_again undos q None waits) (back_more old nodes others undos q was now None lead set waits same tt room)
+-- the undos that were made, with one more
+long_set : (nodes others : List Node) (q : ℕ) (was now : Node) → IsSetAt q nodes others was now → length others ≡ length nodes
+long_set nodes others q was now set = ap length set.is ∙ set_long nodes q now
 
-waits_on : (nodes others : List Node) (undos : List (Option KernelUndo)) (q : ℕ) (now : Node) (undo : Option KernelUndo) → others ≡ slice_set nodes q now
-    → ((p : ℕ) → q ≤ p → p < length nodes → slice_get undos p ≡ Some None) → (p : ℕ) → suc q ≤ p → p < length others → slice_get (slice_set undos q undo) p ≡ Some None
-waits_on nodes others undos q now undo is waiting p high within =
-    set_there undos q p undo (λ e. omega (arith, high, e))
-    ∙ waiting p (omega (arith, high)) (omega (arith, within, ap length is ∙ set_long nodes q now))
+made_more : (nodes others : List Node) (q : ℕ) (was now : Node) (made : Made) (undo : KeepsUndo) → IsSetAt q nodes others was now
+    → by_place (length others) (made ++ (q, undo) ∷ []) ≡ slice_set (by_place (length nodes) made) q (Some undo)
+made_more nodes others q was now made undo set =
+    ap (λ n. by_place n (made ++ (q, undo) ∷ [])) (long_set nodes others q was now set) ∙ placed_last (replicate (length nodes) None) made (q, undo)
+
+have_more : (old nodes others : List Node) (made : Made) (q : ℕ) (was now : Node) (undo : KeepsUndo) → HaveBack old nodes made → IsSetAt q nodes others was now
+    → slice_get (by_place (length nodes) made) q ≡ Some None → before_one (Some undo) now.keeps ≡ contents was.keeps → CanGoBack (Some undo) now.keeps → room_of was.keeps ≤ room_of now.keeps
+    → HaveBack old others (made ++ (q, undo) ∷ [])
+have_more old nodes others made q was now undo have set waits back can room = record {
+  lead = subst (LeadBack old others) (sym (made_more nodes others q was now made undo set))
+      (back_more old nodes others (by_place (length nodes) made) q was now (Some undo) have.lead set waits back can room);
+  apart = apart_more (replicate (length others) None) made (q, undo) (subst (λ n. AreApart n made) (sym (long_set nodes others q was now set)) have.apart)
+      (subst (λ n. slice_get (by_place n made) q ≡ Some None) (sym (long_set nodes others q was now set)) waits);
+}
+
+-- the same where it has no undo
+have_same : (old nodes others : List Node) (made : Made) (q : ℕ) (was now : Node) → HaveBack old nodes made → IsSetAt q nodes others was now
+    → slice_get (by_place (length nodes) made) q ≡ Some None → contents now.keeps ≡ contents was.keeps → room_of was.keeps ≤ room_of now.keeps → HaveBack old others made
+have_same old nodes others made q was now have set waits same room = record {
+  lead = subst (λ n. LeadBack old others (by_place n made)) (sym (long_set nodes others q was now set))
+      (subst (LeadBack old others) (set_again (by_place (length nodes) made) q None waits)
+      (back_more old nodes others (by_place (length nodes) made) q was now None have.lead set waits same tt room));
+  apart = subst (λ n. AreApart n made) (sym (long_set nodes others q was now set)) have.apart;
+}
+
+waits_more : (nodes others : List Node) (made : Made) (q : ℕ) (was now : Node) (undo : KeepsUndo) → IsSetAt q nodes others was now
+    → ((p : ℕ) → q ≤ p → p < length nodes → slice_get (by_place (length nodes) made) p ≡ Some None)
+    → (p : ℕ) → suc q ≤ p → p < length others → slice_get (by_place (length others) (made ++ (q, undo) ∷ [])) p ≡ Some None
+waits_more nodes others made q was now undo set waiting p high within =
+    ap (λ us. slice_get us p) (made_more nodes others q was now made undo set)
+    ∙ (set_there (by_place (length nodes) made) q p (Some undo) (λ e. omega (arith, high, e))
+    ∙ waiting p (omega (arith, high)) (omega (arith, within, long_set nodes others q was now set)))
+
+waits_same : (nodes others : List Node) (made : Made) (q : ℕ) (was now : Node) → IsSetAt q nodes others was now
+    → ((p : ℕ) → q ≤ p → p < length nodes → slice_get (by_place (length nodes) made) p ≡ Some None)
+    → (p : ℕ) → suc q ≤ p → p < length others → slice_get (by_place (length others) made) p ≡ Some None
+waits_same nodes others made q was now set waiting p high within =
+    ap (λ n. slice_get (by_place n made) p) (long_set nodes others q was now set)
+    ∙ waiting p (omega (arith, high)) (omega (arith, within, long_set nodes others q was now set))
 
 -- the node whose turn it is, as it was tried
-pub tried_next : (limit : ℕ) (old : List Node) (places : List ℕ) (command : Command) (q : ℕ) (nodes : List Node) (told : List (Option Told)) (undos : List (Option KernelUndo)) (was : Node)
-    → IsSpread limit old places command q nodes told undos → slice_get nodes q ≡ Some was → IsNext old places command q nodes was
-tried_next limit old places command q nodes told undos was h at = next_of limit old places command q nodes was h.begun h.turned at
+pub tried_next : (limit : ℕ) (old : List Node) (places : List ℕ) (c : Command) (start : Option ℕ) (q : ℕ) (nodes : List Node) (told : List (Option Told)) (made : Made) (was : Node)
+    → IsSpread limit old places c start q nodes told made → slice_get nodes q ≡ Some was → IsNext old places c q nodes was
+tried_next limit old places c start q nodes told made was h at = next_of limit old places c start q nodes was h.begun h.turned at
 
-waits_here : (limit : ℕ) (old : List Node) (places : List ℕ) (command : Command) (q : ℕ) (nodes : List Node) (told : List (Option Told)) (undos : List (Option KernelUndo)) → q < length nodes
-    → IsSpread limit old places command q nodes told undos → slice_get undos q ≡ Some None
-waits_here limit old places command q nodes told undos within h = h.waiting q (omega arith) within
+waits_here : (limit : ℕ) (old : List Node) (places : List ℕ) (c : Command) (start : Option ℕ) (q : ℕ) (nodes : List Node) (told : List (Option Told)) (made : Made) → q < length nodes
+    → IsSpread limit old places c start q nodes told made → slice_get (by_place (length nodes) made) q ≡ Some None
+waits_here limit old places c start q nodes told made within h = h.waiting q (omega arith) within
 
 -- it stays
-pub none_more : (limit : ℕ) (old : List Node) (places : List ℕ) (command : Command) (q : ℕ) (nodes others : List Node) (told : List (Option Told)) (undos : List (Option KernelUndo)) → q < length nodes
-    → IsTriedAt places command told q nodes others (Ok None) → IsSpread limit old places command q nodes told undos → IsSpread limit old places command (suc q) others told undos
-none_more limit old places command q nodes others told undos within tried h =
+pub none_more : (limit : ℕ) (old : List Node) (places : List ℕ) (c : Command) (start : Option ℕ) (q : ℕ) (nodes others : List Node) (told : List (Option Told)) (made : Made) → q < length nodes
+    → IsTriedAt start places c told q nodes others (Ok None) → IsSpread limit old places c start q nodes told made → IsSpread limit old places c start (suc q) others told made
+none_more limit old places c start q nodes others told made within tried h =
     let was = tried.was in
     let now = tried.now in
-    let next = tried_next limit old places command q nodes told undos was h tried.set.there in
-    let waits = waits_here limit old places command q nodes told undos within h in
-    let still = still_by limit old places command q nodes was now told h.begun h.told_to next tried.tried.ok in
-    let shows = on_shows limit old places command q nodes was now h.begun next still.on in
+    let next = tried_next limit old places c start q nodes told made was h tried.set.there in
+    let waits = waits_here limit old places c start q nodes told made within h in
+    let still = still_by limit old places c start q nodes was now told h.begun h.told_to next tried.tried.ok in
+    let shows = on_shows limit old places c start q nodes was now h.begun next still.on in
     let low : was.list < length places = next.turn.within in
-    let few : length (view (own_of now.kernel) (shown_by (take q nodes) places)) ≤ limit = subst (λ xs. length xs ≤ limit) (sym (shows ∙ still.same)) (shown_few limit old places h.begun.graph was.list low) in
+    let few : length (shown_of (own_of now.keeps) (shown_by (take q nodes) places)) ≤ limit = subst (λ xs. length xs ≤ limit) (sym (shows ∙ still.same)) (shown_few limit old places h.begun.graph was.list low) in
     record {
       begun = h.begun;
-      turned = turned_more limit old places command q nodes others was now h.begun h.turned next tried.set still.on few;
-      told_to = told_still limit old places command q nodes was told h.begun h.told_to next still.told still.same;
-      back = back_same old nodes others undos q was now h.back tried.set waits (ap contents tried.tried.ok.1.same) tried.tried.room;
-      waiting = λ p high at. subst (λ us. slice_get us p ≡ Some None) (set_again undos q None waits) (waits_on nodes others undos q now None tried.set.is h.waiting p high at);
+      turned = turned_more limit old places c start q nodes others was now h.begun h.turned next tried.set still.on few;
+      told_to = told_still limit old places c start q nodes was told h.begun h.told_to next still.told still.same;
+      back = have_same old nodes others made q was now h.back tried.set waits (ap contents tried.tried.ok.1.same) tried.tried.room;
+      waiting = waits_same nodes others made q was now tried.set h.waiting;
     }
 
 -- it is told of
-pub some_more : (limit : ℕ) (old : List Node) (places : List ℕ) (command : Command) (q : ℕ) (nodes others : List Node) (told after : List (Option Told)) (undos : List (Option KernelUndo))
-    (done : Told × KernelUndo) → q < length nodes → (tried : IsTriedAt places command told q nodes others (Ok (Some done))) → IsPut tried.was.list done.0 told after
-    → length (view (own_of tried.now.kernel) (shown_by (take q nodes) places)) ≤ limit
-    → IsSpread limit old places command q nodes told undos → IsSpread limit old places command (suc q) others after (slice_set undos q (Some done.1))
-some_more limit old places command q nodes others told after undos done within tried put few h =
+pub some_more : (limit : ℕ) (old : List Node) (places : List ℕ) (c : Command) (start : Option ℕ) (q : ℕ) (nodes others : List Node) (told after : List (Option Told)) (made : Made)
+    (done : Told × KeepsUndo) → q < length nodes → (tried : IsTriedAt start places c told q nodes others (Ok (Some done))) → IsPut tried.was.list done.0 told after
+    → length (shown_of (own_of tried.now.keeps) (shown_by (take q nodes) places)) ≤ limit
+    → IsSpread limit old places c start q nodes told made → IsSpread limit old places c start (suc q) others after (made ++ (q, done.1) ∷ [])
+some_more limit old places c start q nodes others told after made done within tried put few h =
     let was = tried.was in
     let now = tried.now in
-    let next = tried_next limit old places command q nodes told undos was h tried.set.there in
-    let waits = waits_here limit old places command q nodes told undos within h in
-    let on = on_by limit old places command q nodes was now told done h.begun h.turned h.told_to next tried.tried.ok in
+    let next = tried_next limit old places c start q nodes told made was h tried.set.there in
+    let waits = waits_here limit old places c start q nodes told made within h in
+    let on = on_by limit old places c start q nodes was now told done h.begun h.turned h.told_to next tried.tried.ok in
     record {
       begun = h.begun;
-      turned = turned_more limit old places command q nodes others was now h.begun h.turned next tried.set on.on few;
-      told_to = told_put limit old places command q nodes was now told after done h.begun h.told_to next on put;
-      back = back_more old nodes others undos q was now (Some done.1) h.back tried.set waits on.undo.back on.undo.can tried.tried.room;
-      waiting = waits_on nodes others undos q now (Some done.1) tried.set.is h.waiting;
+      turned = turned_more limit old places c start q nodes others was now h.begun h.turned next tried.set on.on few;
+      told_to = told_put limit old places c start q nodes was now told after done h.begun h.told_to next on put;
+      back = have_more old nodes others made q was now done.1 h.back tried.set waits on.undo.back on.undo.can tried.tried.room;
+      waiting = waits_more nodes others made q was now done.1 tried.set h.waiting;
     }
 
 -- it has become too long
-pub over_back : (limit : ℕ) (old : List Node) (places : List ℕ) (command : Command) (q : ℕ) (nodes others : List Node) (told : List (Option Told)) (undos : List (Option KernelUndo))
-    (done : Told × KernelUndo) → q < length nodes → IsTriedAt places command told q nodes others (Ok (Some done)) → IsSpread limit old places command q nodes told undos
-    → LeadBack old others (slice_set undos q (Some done.1))
-over_back limit old places command q nodes others told undos done within tried h =
+pub over_back : (limit : ℕ) (old : List Node) (places : List ℕ) (c : Command) (start : Option ℕ) (q : ℕ) (nodes others : List Node) (told : List (Option Told)) (made : Made)
+    (done : Told × KeepsUndo) → q < length nodes → IsTriedAt start places c told q nodes others (Ok (Some done)) → IsSpread limit old places c start q nodes told made
+    → HaveBack old others (made ++ (q, done.1) ∷ [])
+over_back limit old places c start q nodes others told made done within tried h =
     let was = tried.was in
     let now = tried.now in
-    let next = tried_next limit old places command q nodes told undos was h tried.set.there in
-    let waits = waits_here limit old places command q nodes told undos within h in
-    let on = on_by limit old places command q nodes was now told done h.begun h.turned h.told_to next tried.tried.ok in
-    back_more old nodes others undos q was now (Some done.1) h.back tried.set waits on.undo.back on.undo.can tried.tried.room
+    let next = tried_next limit old places c start q nodes told made was h tried.set.there in
+    let waits = waits_here limit old places c start q nodes told made within h in
+    let on = on_by limit old places c start q nodes was now told done h.begun h.turned h.told_to next tried.tried.ok in
+    have_more old nodes others made q was now done.1 h.back tried.set waits on.undo.back on.undo.can tried.tried.room
 
-pub over_reason : (limit : ℕ) (old : List Node) (places : List ℕ) (command : Command) (q : ℕ) (nodes others : List Node) (told : List (Option Told)) (undos : List (Option KernelUndo))
-    (done : Told × KernelUndo) (why : Refused) → (tried : IsTriedAt places command told q nodes others (Ok (Some done)))
-    → IsOver limit tried.was.list (length (view (own_of tried.now.kernel) (shown_by (take q nodes) places))) why
-    → IsSpread limit old places command q nodes told undos → IsRefused limit (state_of old places) command why
-over_reason limit old places command q nodes others told undos done why tried over h =
+pub over_reason : (limit : ℕ) (old : List Node) (places : List ℕ) (c : Command) (start : Option ℕ) (q : ℕ) (nodes others : List Node) (told : List (Option Told)) (made : Made)
+    (done : Told × KeepsUndo) (why : Refused) → (tried : IsTriedAt start places c told q nodes others (Ok (Some done)))
+    → IsOver limit tried.was.list (length (shown_of (own_of tried.now.keeps) (shown_by (take q nodes) places))) why
+    → IsSpread limit old places c start q nodes told made → IsRefused limit (state_of old places) c why
+over_reason limit old places c start q nodes others told made done why tried over h =
     let was = tried.was in
     let now = tried.now in
-    let next = tried_next limit old places command q nodes told undos was h tried.set.there in
-    let on = on_by limit old places command q nodes was now told done h.begun h.turned h.told_to next tried.tried.ok in
-    over_refused limit old places command q nodes was now done why h.begun h.turned next on over
+    let next = tried_next limit old places c start q nodes told made was h tried.set.there in
+    let on = on_by limit old places c start q nodes was now told done h.begun h.turned h.told_to next tried.tried.ok in
+    over_refused limit old places c start q nodes was now done why h.begun h.turned next on over
 
 -- it isn't turned
-pub stop_back : (limit : ℕ) (old : List Node) (places : List ℕ) (command : Command) (q : ℕ) (nodes others : List Node) (told : List (Option Told)) (undos : List (Option KernelUndo)) (why : Refused)
-    → q < length nodes → IsTriedAt places command told q nodes others (Err why) → IsSpread limit old places command q nodes told undos → LeadBack old others undos
-stop_back limit old places command q nodes others told undos why within tried h =
-    back_same old nodes others undos q tried.was tried.now h.back tried.set (waits_here limit old places command q nodes told undos within h) tried.tried.err tried.tried.room
+pub stop_back : (limit : ℕ) (old : List Node) (places : List ℕ) (c : Command) (start : Option ℕ) (q : ℕ) (nodes others : List Node) (told : List (Option Told)) (made : Made) (why : Refused)
+    → q < length nodes → IsTriedAt start places c told q nodes others (Err why) → IsSpread limit old places c start q nodes told made → HaveBack old others made
+stop_back limit old places c start q nodes others told made why within tried h =
+    have_same old nodes others made q tried.was tried.now h.back tried.set (waits_here limit old places c start q nodes told made within h) tried.tried.err tried.tried.room
 
-pub stop_reason : (limit : ℕ) (old : List Node) (places : List ℕ) (command : Command) (q : ℕ) (nodes others : List Node) (told : List (Option Told)) (undos : List (Option KernelUndo)) (why : Refused)
-    → IsTriedAt places command told q nodes others (Err why) → IsSpread limit old places command q nodes told undos → IsRefused limit (state_of old places) command why
-stop_reason limit old places command q nodes others told undos why tried h =
+pub stop_reason : (limit : ℕ) (old : List Node) (places : List ℕ) (c : Command) (start : Option ℕ) (q : ℕ) (nodes others : List Node) (told : List (Option Told)) (made : Made) (why : Refused)
+    → IsTriedAt start places c told q nodes others (Err why) → IsSpread limit old places c start q nodes told made → IsRefused limit (state_of old places) c why
+stop_reason limit old places c start q nodes others told made why tried h =
     let was = tried.was in
-    let next = tried_next limit old places command q nodes told undos was h tried.set.there in
-    stop_refused limit old places command q nodes was why h.begun h.turned next (tried.tried.stopped limit (h.turned.limited q was tried.set.there))
+    let next = tried_next limit old places c start q nodes told made was h tried.set.there in
+    stop_refused limit old places c start q nodes was told why h.begun h.turned h.told_to next (tried.tried.stopped limit (h.turned.limited q was tried.set.there))
 
 -- the node at a place can be tried
 record HasNode (nodes : List Node) (q : ℕ) : Type 0 where
@@ -136,75 +176,121 @@ has_node [] q within = absurd (omega (arith, within))
 has_node (n ∷ nodes) zero within = record { node = n; there = refl }
 has_node (n ∷ nodes) (suc q) within = let h = has_node nodes q (omega (arith, within)) in record { node = h.node; there = h.there }
 
-pub spread_turns : (limit : ℕ) (old : List Node) (places : List ℕ) (command : Command) (q : ℕ) (nodes : List Node) (told : List (Option Told)) (undos : List (Option KernelUndo)) → q < length nodes
-    → IsSpread limit old places command q nodes told undos → CanTurnAt places command told q nodes
-spread_turns limit old places command q nodes told undos within h =
+pub spread_turns : (limit : ℕ) (old : List Node) (places : List ℕ) (c : Command) (start : Option ℕ) (q : ℕ) (nodes : List Node) (told : List (Option Told)) (made : Made) → q < length nodes
+    → IsSpread limit old places c start q nodes told made → CanTurnAt start places c told q nodes
+spread_turns limit old places c start q nodes told made within h =
     let at = has_node nodes q within in
-    can_turn limit old places command q nodes at.node told h.begun h.turned h.told_to at.there
+    can_turn limit old places c start q nodes at.node told h.begun h.turned h.told_to at.there
 
 -- what is needed to tell of it
-pub undo_within : (limit : ℕ) (old : List Node) (places : List ℕ) (command : Command) (q : ℕ) (nodes : List Node) (told : List (Option Told)) (undos : List (Option KernelUndo)) → q < length nodes
-    → IsSpread limit old places command q nodes told undos → q < length undos
-undo_within limit old places command q nodes told undos within h = get_within undos q None (waits_here limit old places command q nodes told undos within h)
-  where
-    get_within : (us : List (Option KernelUndo)) (k : ℕ) (u : Option KernelUndo) → slice_get us k ≡ Some u → k < length us
-    get_within [] k u e = absurd cc
-    get_within (v ∷ us) zero u e = omega arith
-    get_within (v ∷ us) (suc k) u e = let h = get_within us k u e in let low : k < length us = h in omega (arith, low)
+pub node_within : (places : List ℕ) (c : Command) (start : Option ℕ) (q : ℕ) (nodes others : List Node) (told : List (Option Told)) (r : Result (Option (Told × KeepsUndo)) Refused) → q < length nodes
+    → IsTriedAt start places c told q nodes others r → q < length others
+node_within places c start q nodes others told r within tried = omega (arith, within, ap length tried.set.is ∙ set_long nodes q tried.now)
 
-pub node_within : (places : List ℕ) (command : Command) (q : ℕ) (nodes others : List Node) (told : List (Option Told)) (r : Result (Option (Told × KernelUndo)) Refused) → q < length nodes
-    → IsTriedAt places command told q nodes others r → q < length others
-node_within places command q nodes others told r within tried = omega (arith, within, ap length tried.set.is ∙ set_long nodes q tried.now)
+node_here : (places : List ℕ) (c : Command) (start : Option ℕ) (q : ℕ) (nodes others : List Node) (told : List (Option Told)) (r : Result (Option (Told × KeepsUndo)) Refused)
+    → (tried : IsTriedAt start places c told q nodes others r) → slice_get others q ≡ Some tried.now
+node_here places c start q nodes others told r tried = ap (λ ns. slice_get ns q) tried.set.is ∙ set_here nodes q tried.was tried.now tried.set.there
 
-node_here : (places : List ℕ) (command : Command) (q : ℕ) (nodes others : List Node) (told : List (Option Told)) (r : Result (Option (Told × KernelUndo)) Refused)
-    → (tried : IsTriedAt places command told q nodes others r) → slice_get others q ≡ Some tried.now
-node_here places command q nodes others told r tried = ap (λ ns. slice_get ns q) tried.set.is ∙ set_here nodes q tried.was tried.now tried.set.there
-
-pub node_listed : (limit : ℕ) (old : List Node) (places : List ℕ) (command : Command) (q : ℕ) (nodes others : List Node) (told : List (Option Told)) (undos : List (Option KernelUndo))
-    (r : Result (Option (Told × KernelUndo)) Refused) → IsTriedAt places command told q nodes others r → IsSpread limit old places command q nodes told undos
+pub node_listed : (limit : ℕ) (old : List Node) (places : List ℕ) (c : Command) (start : Option ℕ) (q : ℕ) (nodes others : List Node) (told : List (Option Told)) (made : Made)
+    (r : Result (Option (Told × KeepsUndo)) Refused) → IsTriedAt start places c told q nodes others r → IsSpread limit old places c start q nodes told made
     → (node : Node) → slice_get others q ≡ Some node → node.list < length told
-node_listed limit old places command q nodes others told undos r tried h node at =
-    let next = tried_next limit old places command q nodes told undos tried.was h tried.set.there in
-    let both : Some tried.now ≡ Some node = sym (node_here places command q nodes others told r tried) ∙ at in
+node_listed limit old places c start q nodes others told made r tried h node at =
+    let next = tried_next limit old places c start q nodes told made tried.was h tried.set.there in
+    let both : Some tried.now ≡ Some node = sym (node_here places c start q nodes others told r tried) ∙ at in
     let one : tried.now ≡ node = cc in
     let low : tried.was.list < length places = next.turn.within in
     subst (λ (n : Node). n.list < length told) one (omega (arith, low, tried.set.list, h.told_to.long))
 
 -- what comes of it
-pub some_ok : {R : Type 0} (limit : ℕ) (old : List Node) (places : List ℕ) (command : Command) (q : ℕ) (nodes others : List Node) (told after : List (Option Told)) (undos kept : List (Option KernelUndo))
-    (done : Told × KernelUndo) (r : Result R Refused) → q < length nodes → IsTriedAt places command told q nodes others (Ok (Some done)) → kept ≡ slice_set undos q (Some done.1)
+pub some_ok : {R : Type 0} (limit : ℕ) (old : List Node) (places : List ℕ) (c : Command) (start : Option ℕ) (q : ℕ) (nodes others : List Node) (told after : List (Option Told)) (made kept : Made)
+    (done : Told × KeepsUndo) (r : Result R Refused) → q < length nodes → IsTriedAt start places c told q nodes others (Ok (Some done)) → kept ≡ made ++ (q, done.1) ∷ []
     → ((node : Node) → slice_get others q ≡ Some node → IsPut node.list done.0 told after)
-    → ((node : Node) (shows : ℕ → List Tree) → slice_get others q ≡ Some node → StandsFor node.kernel shows → OnOk r (length (view (own_of node.kernel) shows) ≤ limit))
-    → IsSpread limit old places command q nodes told undos → OnOk r (IsSpread limit old places command (suc q) others after kept)
-some_ok limit old places command q nodes others told after undos kept done (Err why) within tried kept_is put short h = tt
-some_ok limit old places command q nodes others told after undos kept done (Ok x) within tried kept_is put short h =
+    → ((node : Node) (shows : ℕ → List Tree) → slice_get others q ≡ Some node → StandsFor node.keeps shows → OnOk r (length (shown_of (own_of node.keeps) shows) ≤ limit))
+    → IsSpread limit old places c start q nodes told made → OnOk r (IsSpread limit old places c start (suc q) others after kept)
+some_ok limit old places c start q nodes others told after made kept done (Err why) within tried kept_is put short h = tt
+some_ok limit old places c start q nodes others told after made kept done (Ok x) within tried kept_is put short h =
     let was = tried.was in
     let now = tried.now in
-    let next = tried_next limit old places command q nodes told undos was h tried.set.there in
-    let on = on_by limit old places command q nodes was now told done h.begun h.turned h.told_to next tried.tried.ok in
-    let here = node_here places command q nodes others told (Ok (Some done)) tried in
-    let few : length (view (own_of now.kernel) (shown_by (take q nodes) places)) ≤ limit = short now (shown_by (take q nodes) places) here on.on.stands in
-    subst (λ us. IsSpread limit old places command (suc q) others after us) (sym kept_is)
-    (some_more limit old places command q nodes others told after undos done within tried (subst (λ l. IsPut l done.0 told after) tried.set.list (put now here)) few h)
+    let next = tried_next limit old places c start q nodes told made was h tried.set.there in
+    let on = on_by limit old places c start q nodes was now told done h.begun h.turned h.told_to next tried.tried.ok in
+    let here = node_here places c start q nodes others told (Ok (Some done)) tried in
+    let few : length (shown_of (own_of now.keeps) (shown_by (take q nodes) places)) ≤ limit = short now (shown_by (take q nodes) places) here on.on.stands in
+    subst (λ us. IsSpread limit old places c start (suc q) others after us) (sym kept_is)
+    (some_more limit old places c start q nodes others told after made done within tried (subst (λ l. IsPut l done.0 told after) tried.set.list (put now here)) few h)
 
-pub some_refused : {R : Type 0} (limit : ℕ) (old : List Node) (places : List ℕ) (command : Command) (q : ℕ) (nodes others : List Node) (told : List (Option Told)) (undos : List (Option KernelUndo))
-    (done : Told × KernelUndo) (r : Result R Refused) → IsTriedAt places command told q nodes others (Ok (Some done))
-    → ((node : Node) (shows : ℕ → List Tree) → slice_get others q ≡ Some node → StandsFor node.kernel shows → IfErr r (IsOver limit node.list (length (view (own_of node.kernel) shows))))
-    → IsSpread limit old places command q nodes told undos → IfErr r (IsRefused limit (state_of old places) command)
-some_refused limit old places command q nodes others told undos done (Ok x) tried over h = tt
-some_refused limit old places command q nodes others told undos done (Err why) tried over h =
+pub some_refused : {R : Type 0} (limit : ℕ) (old : List Node) (places : List ℕ) (c : Command) (start : Option ℕ) (q : ℕ) (nodes others : List Node) (told : List (Option Told)) (made : Made)
+    (done : Told × KeepsUndo) (r : Result R Refused) → IsTriedAt start places c told q nodes others (Ok (Some done))
+    → ((node : Node) (shows : ℕ → List Tree) → slice_get others q ≡ Some node → StandsFor node.keeps shows → IfErr r (IsOver limit node.list (length (shown_of (own_of node.keeps) shows))))
+    → IsSpread limit old places c start q nodes told made → IfErr r (IsRefused limit (state_of old places) c)
+some_refused limit old places c start q nodes others told made done (Ok x) tried over h = tt
+some_refused limit old places c start q nodes others told made done (Err why) tried over h =
     let was = tried.was in
     let now = tried.now in
-    let next = tried_next limit old places command q nodes told undos was h tried.set.there in
-    let on = on_by limit old places command q nodes was now told done h.begun h.turned h.told_to next tried.tried.ok in
-    let here = node_here places command q nodes others told (Ok (Some done)) tried in
+    let next = tried_next limit old places c start q nodes told made was h tried.set.there in
+    let on = on_by limit old places c start q nodes was now told done h.begun h.turned h.told_to next tried.tried.ok in
+    let here = node_here places c start q nodes others told (Ok (Some done)) tried in
     let long = over now (shown_by (take q nodes) places) here on.on.stands in
-    over_reason limit old places command q nodes others told undos done why tried
-    (subst (λ l. IsOver limit l (length (view (own_of now.kernel) (shown_by (take q nodes) places))) why) tried.set.list long) h
+    over_reason limit old places c start q nodes others told made done why tried
+    (subst (λ l. IsOver limit l (length (shown_of (own_of now.keeps) (shown_by (take q nodes) places))) why) tried.set.list long) h
 
-pub some_back : {R : Type 0} (limit : ℕ) (old : List Node) (places : List ℕ) (command : Command) (q : ℕ) (nodes others : List Node) (told : List (Option Told)) (undos kept : List (Option KernelUndo))
-    (done : Told × KernelUndo) (r : Result R Refused) → q < length nodes → IsTriedAt places command told q nodes others (Ok (Some done)) → kept ≡ slice_set undos q (Some done.1)
-    → IsSpread limit old places command q nodes told undos → OnErr r (LeadBack old others kept)
-some_back limit old places command q nodes others told undos kept done (Ok x) within tried kept_is h = tt
-some_back limit old places command q nodes others told undos kept done (Err why) within tried kept_is h =
-    subst (LeadBack old others) (sym kept_is) (over_back limit old places command q nodes others told undos done within tried h)
+pub some_back : {R : Type 0} (limit : ℕ) (old : List Node) (places : List ℕ) (c : Command) (start : Option ℕ) (q : ℕ) (nodes others : List Node) (told : List (Option Told)) (made kept : Made)
+    (done : Told × KeepsUndo) (r : Result R Refused) → q < length nodes → IsTriedAt start places c told q nodes others (Ok (Some done)) → kept ≡ made ++ (q, done.1) ∷ []
+    → IsSpread limit old places c start q nodes told made → OnErr r (HaveBack old others kept)
+some_back limit old places c start q nodes others told made kept done (Ok x) within tried kept_is h = tt
+some_back limit old places c start q nodes others told made kept done (Err why) within tried kept_is h =
+    subst (HaveBack old others) (sym kept_is) (over_back limit old places c start q nodes others told made done within tried h)
+
+pub place_few : (limit : ℕ) (old : List Node) (places : List ℕ) (c : Command) (start : Option ℕ) (q : ℕ) (nodes : List Node) (told : List (Option Told)) (made : Made) → q < length nodes
+    → IsSpread limit old places c start q nodes told made → q < 4294967296
+place_few limit old places c start q nodes told made within h =
+    let long : length nodes ≡ length old =
+    sym (length-map nodes (λ (n : Node). n.list)) ∙ (ap length h.turned.numbers_are ∙ length-map old (λ (n : Node). n.list)) in
+    omega (arith, within, long, nodes_few limit old places h.begun.graph)
+
+-- a list before the one where the wave begins stays
+skip_one : (limit : ℕ) (old : List Node) (places : List ℕ) (c : Command) (start : Option ℕ) (q : ℕ) (nodes : List Node) (told : List (Option Told)) (made : Made) → q < length nodes
+    → (HasBegun places start (suc q) → ⊥) → IsSpread limit old places c start q nodes told made → IsSpread limit old places c start (suc q) nodes told made
+skip_one limit old places c start q nodes told made within early h =
+    let at = has_node nodes q within in
+    let was = at.node in
+    let next = tried_next limit old places c start q nodes told made was h at.there in
+    none_more limit old places c start q nodes nodes told made within (record {
+      was = was;
+      now = was;
+      set = record { there = at.there; is = sym (set_again nodes q was at.there); list = refl };
+      tried = record {
+        ok = (other was next.turn.placed, record { same = refl; untold = on_inputs (λ i. slice_index_or told i None ≡ None) was.keeps (λ i d. h.told_to.quiet (λ b. early (begun_later places start q b)) i) });
+        err = tt;
+        stopped = λ most limited. tt;
+        room = omega arith;
+      };
+    }) h
+  where
+    other : (was : Node) → slice_index places was.list ≡ q → start ≢ Some was.list
+    other was placed e = early (subst (λ o. HasBegun places o (suc q)) (sym e) (now placed))
+      where
+        now : slice_index places was.list ≡ q → slice_index places was.list < suc q
+        now is = omega (arith, is)
+
+pub skip_to : (limit : ℕ) (old : List Node) (places : List ℕ) (c : Command) (list : ℕ) (q : ℕ) (told : List (Option Told)) (made : Made) → q ≤ slice_index places list → slice_index places list < length old
+    → IsSpread limit old places c (Some list) 0 old told made → IsSpread limit old places c (Some list) q old told made
+skip_to limit old places c list zero told made low within h = h
+skip_to limit old places c list (suc q) told made low within h =
+    skip_one limit old places c (Some list) q old told made (omega (arith, low, within)) (λ later. omega (arith, later, low))
+    (skip_to limit old places c list q told made (omega (arith, low)) within h)
+
+-- a command that has come to the list where its wave begins
+pub begins : (limit : ℕ) (old : List Node) (places : List ℕ) (c : Command) (list : ℕ) (told : List (Option Told)) (made : Made) → IsGraph limit old places
+    → about c < length (state_of old places) → Suits c (own_at (state_of old places) (about c)) → list ≡ about c → told ≡ replicate (length places) None → made ≡ []
+    → IsSpread limit old places c (Some list) (slice_index places list) old told made
+begins limit old places c list told made graph within suits same told_is made_is =
+    skip_to limit old places c list (slice_index places list) told made (omega arith) (start_low limit old places list graph (omega (arith, within, same, long_state old places)))
+    (spread_begins limit old places c (Some list) told made begun told_is made_is)
+  where
+    begun : IsBegun limit old places c (Some list)
+    begun = record {
+      graph = graph;
+      within = within;
+      suits = suits;
+      start_is = ap (λ (n : ℕ). Some n) same ∙ sym (starts_at (state_of old places) c suits);
+    }

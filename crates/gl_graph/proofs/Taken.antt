@@ -1,22 +1,38 @@
 -- Undos taken back one after another, the last one first.
-use Rattle.std.proofs.Common.{◌≡◌, ◌∙◌, ℕ, zero, suc, ◌<◌, ◌≤◌, List, [], ◌∷◌, ◌++◌, length, refl, ap, sym, subst, arith}
-use Rattle.std.specs.Prelude.{Option, Some, slice_get, slice_set, slice_index_or}
+use Rattle.std.proofs.Common.{◌≡◌, ◌∙◌, ℕ, zero, suc, ◌<◌, ◌≤◌, List, [], ◌∷◌, ◌++◌, length, fold, replicate, refl, ap, sym, subst, arith}
+use Rattle.std.specs.Prelude.{Option, Some, None, slice_get, slice_set, slice_index_or}
 use Rattle.std.proofs.lemmas.List.{length-set}
 use Rattle.std.proofs.lemmas.Option.{slice_get-get_or, slice_get_within}
 use Rattle.gl_graph.specs.declared.node.Node.{Node}
-use Rattle.gl_graph.specs.declared.undo.KernelUndo.{KernelUndo}
+use Rattle.gl_graph.specs.declared.keeps.KeepsUndo.{KeepsUndo}
 use Rattle.gl_graph.specs.Nodes.{numbers}
-use Rattle.gl_graph.specs.Undos as kernel
-use Rattle.gl_graph.specs.Waves.{contents_of, before_one, before_all, CanGoBack, CanAllGoBack, HaveRoomOf}
+use Rattle.gl_graph.specs.Undos as keeps
+use Rattle.gl_graph.specs.Waves.{Made, put_undo, by_place, AreApartFrom, AreApart, contents_of, before_one, before_all, CanGoBack, CanAllGoBack, HaveRoomOf}
 use Rattle.gl_graph.specs.Backs.{CanGoBackAt, IsOneBack, IsBackAt}
 
--- the last one can be taken back
-pub can_last : (undos : List (Option KernelUndo)) (undo : Option KernelUndo) (nodes : List Node)
-    → CanAllGoBack (undos ++ undo ∷ []) nodes → CanGoBackAt undo (length undos) nodes
-can_last [] undo [] can node is = absurd cc
-can_last [] undo (n ∷ nodes) can node is = (let same : n ≡ node = cc in subst (λ (m : Node). CanGoBack undo m.kernel) same can.0)
-can_last (d ∷ undos) undo [] can node is = absurd cc
-can_last (d ∷ undos) undo (n ∷ nodes) can node is = can_last undos undo nodes can.1 node is
+-- the last undo of those that were made
+pub placed_last : (undos : List (Option KeepsUndo)) (made : Made) (one : ℕ × KeepsUndo) → fold put_undo undos (made ++ one ∷ []) ≡ put_undo (fold put_undo undos made) one
+placed_last undos [] one = refl
+placed_last undos (first ∷ made) one = placed_last (put_undo undos first) made one
+
+pub apart_last : (undos : List (Option KeepsUndo)) (made : Made) (one : ℕ × KeepsUndo) → AreApartFrom undos (made ++ one ∷ [])
+    → AreApartFrom undos made × (slice_get (fold put_undo undos made) one.0 ≡ Some None)
+apart_last undos [] one h = (tt, h.0)
+apart_last undos (first ∷ made) one h = let later = apart_last (put_undo undos first) made one h.1 in ((h.0, later.0), later.1)
+
+pub apart_more : (undos : List (Option KeepsUndo)) (made : Made) (one : ℕ × KeepsUndo) → AreApartFrom undos made
+    → slice_get (fold put_undo undos made) one.0 ≡ Some None → AreApartFrom undos (made ++ one ∷ [])
+apart_more undos [] one h e = (e, tt)
+apart_more undos (first ∷ made) one h e = (h.0, apart_more (put_undo undos first) made one h.1 e)
+
+-- one that can be taken back
+can_put : (undos : List (Option KeepsUndo)) (undo : KeepsUndo) (place : ℕ) (nodes : List Node) → slice_get undos place ≡ Some None
+    → CanAllGoBack (slice_set undos place (Some undo)) nodes → CanGoBackAt (Some undo) place nodes
+can_put [] undo place nodes e can node is = absurd cc
+can_put (d ∷ undos) undo zero [] e can node is = absurd cc
+can_put (d ∷ undos) undo zero (n ∷ nodes) e can node is = (let same : n ≡ node = cc in subst (λ (m : Node). CanGoBack (Some undo) m.keeps) same can.0)
+can_put (d ∷ undos) undo (suc place) [] e can node is = absurd cc
+can_put (d ∷ undos) undo (suc place) (n ∷ nodes) e can node is = can_put undos undo place nodes e can.1 node is
 
 same_nodes : (a b : List Node) → length a ≡ length b → ((p : ℕ) → slice_get a p ≡ slice_get b p) → a ≡ b
 same_nodes [] [] long same = refl
@@ -27,7 +43,7 @@ same_nodes (m ∷ a) (n ∷ b) long same =
     let rest : a ≡ b = same_nodes a b (omega (arith, long)) (λ p. same (suc p)) in
     ap (λ x. x ∷ a) first ∙ ap (λ xs. n ∷ xs) rest
 
-rest_back : (undo : Option KernelUndo) (place : ℕ) (m n : Node) (old new : List Node)
+rest_back : (undo : Option KeepsUndo) (place : ℕ) (m n : Node) (old new : List Node)
     → IsBackAt undo (suc place) (m ∷ old) (n ∷ new) → IsBackAt undo place old new
 rest_back undo place m n old new back = record {
   long = (let long = back.long in omega (arith, long));
@@ -35,45 +51,72 @@ rest_back undo place m n old new back = record {
   this = λ a b is_a is_b. back.this a b is_a is_b;
 }
 
-first_same : (undo : Option KernelUndo) (place : ℕ) (m n : Node) (old new : List Node)
+first_same : (undo : Option KeepsUndo) (place : ℕ) (m n : Node) (old new : List Node)
     → IsBackAt undo (suc place) (m ∷ old) (n ∷ new) → n ≡ m
 first_same undo place m n old new back = (let both : Some n ≡ Some m = back.others 0 (λ e. absurd (omega (arith, e))) in cc)
 
-others_same : (undo : Option KernelUndo) (m n : Node) (old new : List Node) → IsBackAt undo 0 (m ∷ old) (n ∷ new)
+others_same : (undo : Option KeepsUndo) (m n : Node) (old new : List Node) → IsBackAt undo 0 (m ∷ old) (n ∷ new)
     → new ≡ old
 others_same undo m n old new back = same_nodes new old (let long = back.long in omega (arith, long)) (λ p. back.others (suc p) (λ e. absurd (omega (arith, e))))
 
-none_can : (nodes : List Node) → CanAllGoBack [] nodes
-none_can [] = tt
-none_can (n ∷ nodes) = tt
-
 -- and then the others
-pub can_rest : (undos : List (Option KernelUndo)) (undo : Option KernelUndo) (old new : List Node)
-    → IsBackAt undo (length undos) old new → CanAllGoBack (undos ++ undo ∷ []) old → CanAllGoBack undos new
-can_rest [] undo old new back can = none_can new
-can_rest (d ∷ undos) undo old [] back can = tt
-can_rest (d ∷ undos) undo [] (n ∷ new) back can = absurd (let long = back.long in omega (arith, long))
-can_rest (d ∷ undos) undo (m ∷ old) (n ∷ new) back can =
-    let same : n ≡ m = first_same undo (length undos) m n old new back in
-    (subst (λ (x : Node). CanGoBack d x.kernel) (sym same) can.0, can_rest undos undo old new (rest_back undo (length undos) m n old new back) can.1)
+rest_put : (undos : List (Option KeepsUndo)) (undo : KeepsUndo) (place : ℕ) (old new : List Node) → slice_get undos place ≡ Some None
+    → IsBackAt (Some undo) place old new → CanAllGoBack (slice_set undos place (Some undo)) old → CanAllGoBack undos new
+rest_put [] undo place old new e back can = absurd cc
+rest_put (d ∷ undos) undo place old [] e back can = tt
+rest_put (d ∷ undos) undo place [] (n ∷ new) e back can = absurd (let long = back.long in omega (arith, long))
+rest_put (d ∷ undos) undo zero (m ∷ old) (n ∷ new) e back can =
+    let none : None ≡ d = cc in
+    (subst (λ o. CanGoBack o n.keeps) none tt, subst (λ ns. CanAllGoBack undos ns) (sym (others_same (Some undo) m n old new back)) can.1)
+rest_put (d ∷ undos) undo (suc place) (m ∷ old) (n ∷ new) e back can =
+    let same : n ≡ m = first_same (Some undo) place m n old new back in
+    (subst (λ (x : Node). CanGoBack d x.keeps) (sym same) can.0, rest_put undos undo place old new e (rest_back (Some undo) place m n old new back) can.1)
 
 -- what is left, of what there is, is the whole
-pub left_rest : (undos : List (Option KernelUndo)) (undo : Option KernelUndo) (old new : List Node)
-    → IsBackAt undo (length undos) old new → before_all undos new ≡ before_all (undos ++ undo ∷ []) old
-left_rest undos undo [] [] back = refl
-left_rest undos undo [] (n ∷ new) back = absurd (let long = back.long in omega (arith, long))
-left_rest undos undo (m ∷ old) [] back = absurd (let long = back.long in omega (arith, long))
-left_rest [] undo (m ∷ old) (n ∷ new) back =
-    let gone : kernel.contents n.kernel ≡ before_one undo m.kernel = (back.this m n refl refl).kernel_is in
-    let rest : new ≡ old = others_same undo m n old new back in
-    ap (λ c. c ∷ before_all [] new) gone ∙ ap (λ ns. before_one undo m.kernel ∷ before_all [] ns) rest
-left_rest (d ∷ undos) undo (m ∷ old) (n ∷ new) back =
-    let same : n ≡ m = first_same undo (length undos) m n old new back in
-    ap (λ (x : Node). before_one d x.kernel ∷ before_all undos new) same
-    ∙ ap (λ cs. before_one d m.kernel ∷ cs) (left_rest undos undo old new (rest_back undo (length undos) m n old new back))
+left_put : (undos : List (Option KeepsUndo)) (undo : KeepsUndo) (place : ℕ) (old new : List Node) → slice_get undos place ≡ Some None
+    → IsBackAt (Some undo) place old new → before_all undos new ≡ before_all (slice_set undos place (Some undo)) old
+left_put [] undo place old new e back = absurd cc
+left_put (d ∷ undos) undo zero [] [] e back = refl
+left_put (d ∷ undos) undo (suc place) [] [] e back = refl
+left_put (d ∷ undos) undo place [] (n ∷ new) e back = absurd (let long = back.long in omega (arith, long))
+left_put (d ∷ undos) undo place (m ∷ old) [] e back = absurd (let long = back.long in omega (arith, long))
+left_put (d ∷ undos) undo zero (m ∷ old) (n ∷ new) e back =
+    let none : d ≡ None = cc in
+    let gone : keeps.contents n.keeps ≡ before_one (Some undo) m.keeps = (back.this m n refl refl).keeps_is in
+    let rest : new ≡ old = others_same (Some undo) m n old new back in
+    ap (λ o. before_one o n.keeps ∷ before_all undos new) none
+    ∙ (ap (λ c. c ∷ before_all undos new) gone ∙ ap (λ ns. before_one (Some undo) m.keeps ∷ before_all undos ns) rest)
+left_put (d ∷ undos) undo (suc place) (m ∷ old) (n ∷ new) e back =
+    let same : n ≡ m = first_same (Some undo) place m n old new back in
+    ap (λ (x : Node). before_one d x.keeps ∷ before_all undos new) same
+    ∙ ap (λ cs. before_one d m.keeps ∷ cs) (left_put undos undo place old new e (rest_back (Some undo) place m n old new back))
+
+-- what is known of the undos that are left
+pub record AreLeft (n : ℕ) (made : Made) (nodes : List Node) (back : List keeps.Contents) : Type 0 where
+  pub long : length nodes ≡ n
+  pub left : before_all (by_place n made) nodes ≡ back
+  pub can : CanAllGoBack (by_place n made) nodes
+  pub apart : AreApart n made
+
+-- the last of them can be taken back, and leaves the others
+pub last_can : (n : ℕ) (made : Made) (one : ℕ × KeepsUndo) (nodes : List Node) (back : List keeps.Contents) → AreLeft n (made ++ one ∷ []) nodes back → CanGoBackAt (Some one.1) one.0 nodes
+last_can n made one nodes back h =
+    can_put (by_place n made) one.1 one.0 nodes (apart_last (replicate n None) made one h.apart).1
+    (subst (λ us. CanAllGoBack us nodes) (placed_last (replicate n None) made one) h.can)
+
+pub last_left : (n : ℕ) (made : Made) (one : ℕ × KeepsUndo) (old new : List Node) (back : List keeps.Contents) → AreLeft n (made ++ one ∷ []) old back
+    → IsBackAt (Some one.1) one.0 old new → AreLeft n made new back
+last_left n made one old new back h gone =
+    let apart = apart_last (replicate n None) made one h.apart in
+    record {
+      long = gone.long ∙ h.long;
+      left = left_put (by_place n made) one.1 one.0 old new apart.1 gone ∙ (ap (λ us. before_all us old) (sym (placed_last (replicate n None) made one)) ∙ h.left);
+      can = rest_put (by_place n made) one.1 one.0 old new apart.1 gone (subst (λ us. CanAllGoBack us old) (placed_last (replicate n None) made one) h.can);
+      apart = apart.0;
+    }
 
 -- the numbers stay
-pub numbers_back : (undo : Option KernelUndo) (place : ℕ) (old new : List Node) → IsBackAt undo place old new
+pub numbers_back : (undo : Option KeepsUndo) (place : ℕ) (old new : List Node) → IsBackAt undo place old new
     → numbers new ≡ numbers old
 numbers_back undo place [] [] back = refl
 numbers_back undo place [] (n ∷ new) back = absurd (let long = back.long in omega (arith, long))
@@ -85,14 +128,14 @@ numbers_back undo (suc place) (m ∷ old) (n ∷ new) back =
     ∙ ap (λ ns. m.list ∷ ns) (numbers_back undo place old new (rest_back undo place m n old new back))
 
 same_room : (x y : Node) (p : ℕ) (old new : List Node) → new ≡ old → slice_get old p ≡ Some x
-    → slice_get new p ≡ Some y → kernel.room_of x.kernel ≤ kernel.room_of y.kernel
+    → slice_get new p ≡ Some y → keeps.room_of x.keeps ≤ keeps.room_of y.keeps
 same_room x y p old new e is_x is_y =
     let both : Some x ≡ Some y = sym is_x ∙ (ap (λ ns. slice_get ns p) (sym e) ∙ is_y) in
     let same : x ≡ y = cc in
-    subst (λ (n : Node). kernel.room_of x.kernel ≤ kernel.room_of n.kernel) same (omega arith)
+    subst (λ (n : Node). keeps.room_of x.keeps ≤ keeps.room_of n.keeps) same (omega arith)
 
 -- no room is lost
-pub room_back : (undo : Option KernelUndo) (place : ℕ) (old new : List Node) → IsBackAt undo place old new
+pub room_back : (undo : Option KeepsUndo) (place : ℕ) (old new : List Node) → IsBackAt undo place old new
     → HaveRoomOf old new
 room_back undo zero old new back zero x y is_x is_y = (back.this x y is_x is_y).room
 room_back undo zero (m ∷ old) (n ∷ new) back (suc p) x y is_x is_y = same_room x y p old new (others_same undo m n old new back) is_x is_y
@@ -104,9 +147,10 @@ room_back undo (suc place) [] new back p x y is_x is_y = absurd cc
 room_back undo (suc place) (m ∷ old) [] back p x y is_x is_y = absurd cc
 
 -- without undos nothing changes
-pub none_back : (nodes : List Node) → before_all [] nodes ≡ contents_of nodes
-none_back [] = refl
-none_back (n ∷ nodes) = ap (λ cs. kernel.contents n.kernel ∷ cs) (none_back nodes)
+pub none_back : (n : ℕ) (nodes : List Node) → before_all (replicate n None) nodes ≡ contents_of nodes
+none_back n [] = refl
+none_back zero (m ∷ nodes) = ap (λ ks. keeps.contents m.keeps ∷ ks) (none_back zero nodes)
+none_back (suc n) (m ∷ nodes) = ap (λ ks. keeps.contents m.keeps ∷ ks) (none_back n nodes)
 
 get_other : (nodes : List Node) (place p : ℕ) (m : Node) → ¬ (p ≡ place)
     → slice_get (slice_set nodes place m) p ≡ slice_get nodes p
@@ -124,19 +168,19 @@ get_set (n ∷ nodes) zero m within = refl
 get_set (n ∷ nodes) (suc place) m within = get_set nodes place m (omega (arith, within))
 
 -- the node that is read there can go back
-pub can_here : (undo : Option KernelUndo) (known : KernelUndo) (place : ℕ) (nodes : List Node) (n : Node)
+pub can_here : (undo : Option KeepsUndo) (known : KeepsUndo) (place : ℕ) (nodes : List Node) (n : Node)
     → undo ≡ Some known → n ≡ slice_index_or nodes place n → place < length nodes
-    → CanGoBackAt undo place nodes → kernel.CanRetreat known n.kernel
+    → CanGoBackAt undo place nodes → keeps.CanRetreat known n.keeps
 can_here undo known place nodes n e value within can =
     let there : slice_get nodes place ≡ Some n = slice_get-get_or nodes place n within ∙ ap Some (sym value) in
-    subst (λ o. CanGoBack o n.kernel) e (can n there)
+    subst (λ o. CanGoBack o n.keeps) e (can n there)
 
 -- and has gone back where another one is written in its place
-pub back_here : (undo : Option KernelUndo) (known : KernelUndo) (place : ℕ) (nodes : List Node) (n m : Node)
+pub back_here : (undo : Option KeepsUndo) (known : KeepsUndo) (place : ℕ) (nodes : List Node) (n m : Node)
     → undo ≡ Some known → n ≡ slice_index_or nodes place n → place < length nodes
-    → m.list ≡ n.list → kernel.contents m.kernel ≡ kernel.before known n.kernel
-    → kernel.room_of n.kernel ≤ kernel.room_of m.kernel → IsBackAt undo place nodes (slice_set nodes place m)
-back_here undo known place nodes n m e value within list_is kernel_is room = record {
+    → m.list ≡ n.list → keeps.contents m.keeps ≡ keeps.before known n.keeps
+    → keeps.room_of n.keeps ≤ keeps.room_of m.keeps → IsBackAt undo place nodes (slice_set nodes place m)
+back_here undo known place nodes n m e value within list_is keeps_is room = record {
   long = length-set nodes place m;
   others = λ p other. get_other nodes place p m other;
   this = λ a b is_a is_b.
@@ -145,12 +189,12 @@ back_here undo known place nodes n m e value within list_is kernel_is room = rec
       let new : Some m ≡ Some b = sym (get_set nodes place m within) ∙ is_b in
       let old_is : n ≡ a = cc in
       let new_is : m ≡ b = cc in
-      let here : IsOneBack undo n m = record { list_is = list_is; kernel_is = kernel_is ∙ ap (λ o. before_one o n.kernel) (sym e); room = room } in
+      let here : IsOneBack undo n m = record { list_is = list_is; keeps_is = keeps_is ∙ ap (λ o. before_one o n.keeps) (sym e); room = room } in
       subst (λ x. IsOneBack undo a x) new_is (subst (λ x. IsOneBack undo x m) old_is here));
 }
 
 -- where there is no node nothing changes
-pub back_past : (undo : Option KernelUndo) (place : ℕ) (nodes : List Node) → length nodes ≤ place
+pub back_past : (undo : Option KeepsUndo) (place : ℕ) (nodes : List Node) → length nodes ≤ place
     → IsBackAt undo place nodes nodes
 back_past undo place nodes past = record {
   long = refl;

@@ -2,7 +2,8 @@
 use Rattle.std.proofs.Common.{◌≡◌, ◌≢◌, ◌∙◌, ℕ, zero, suc, ◌<◌, ◌≤◌, Bool, true, false, ltb, List, [], ◌∷◌, length, refl, ap, sym, subst, arith, inl, inr}
 use Rattle.std.specs.Prelude.{Option, Some, None, slice_set, slice_index, slice_index_or}
 use Rattle.std.proofs.lemmas.Bool.{ltb-true, ltb-false}
-use Rattle.spec_lists.specs.Piece.{identity, old_len}
+use Rattle.spec_lists.specs.Piece.{old_len}
+use Rattle.spec_lists.specs.Delta.{no_change}
 use Rattle.spec_lists.specs.Leads.{IsDelta}
 use Rattle.spec_lists.proofs.Leading.{length_from}
 use Rattle.spec_lists.proofs.Lengths.{old_len-identity}
@@ -10,17 +11,18 @@ use Rattle.gl_lines.specs.declared.plan.Command.{Command}
 use Rattle.gl_delta.specs.Told.{Told}
 use Rattle.spec_states.specs.State.{State}
 use Rattle.spec_states.specs.Shown.{shown}
-use Rattle.spec_states.specs.Wave.{wave, wave_deltas, delta_in}
+use Rattle.spec_states.specs.Wave.{command, wave, wave_deltas, delta_in}
 use Rattle.spec_states.proofs.Views.{length-table_of}
-use Rattle.spec_states.proofs.Waves.{wave_leads}
 use Rattle.gl_graph.specs.declared.node.Node.{Node}
-use Rattle.gl_graph.specs.declared.undo.KernelUndo.{KernelUndo}
+use Rattle.gl_graph.specs.declared.keeps.KeepsUndo.{KeepsUndo}
 use Rattle.gl_graph.specs.Nodes.{state_of}
 use Rattle.gl_graph.specs.Waves.{IsTold}
 use Rattle.gl_graph.specs.Spread.{IsBegun, AreToldTo, IsPut}
-use Rattle.gl_graph.proofs.Identities.{identity_same}
+use Rattle.gl_graph.proofs.Identities.{none_same}
 use Rattle.gl_graph.proofs.Setting.{set_long}
-use Rattle.gl_graph.proofs.Nexting.{IsNext, long_state}
+use Rattle.gl_graph.proofs.Plain.{long_state}
+use Rattle.gl_graph.proofs.Waving.{graph_leads}
+use Rattle.gl_graph.proofs.Nexting.{IsNext, begun_later}
 use Rattle.gl_graph.proofs.Spreading.{IsOnBy, the_next}
 
 put_here : (told : List (Option Told)) (k : ℕ) (v : Option Told) → k < length told → slice_index_or (slice_set told k v) k None ≡ v
@@ -36,55 +38,55 @@ put_there (x ∷ told) (suc k) zero v h = refl
 put_there (x ∷ told) (suc k) (suc list) v h = put_there told k list v (λ e. h (ap suc e))
 
 -- nothing is told of a list that doesn't change
-pub told_still : (limit : ℕ) (old : List Node) (places : List ℕ) (command : Command) (q : ℕ) (nodes : List Node) (was : Node) (told : List (Option Told)) → IsBegun limit old places command
-    → AreToldTo (state_of old places) places command q told → IsNext old places command q nodes was
-    → delta_in (wave_deltas (state_of old places) command) was.list ≡ identity (length (shown (state_of old places) was.list))
-    → shown (wave (state_of old places) command) was.list ≡ shown (state_of old places) was.list → AreToldTo (state_of old places) places command (suc q) told
-told_still limit old places command q nodes was told begun to next pieces stays = record {
+pub told_still : (limit : ℕ) (old : List Node) (places : List ℕ) (c : Command) (start : Option ℕ) (q : ℕ) (nodes : List Node) (was : Node) (told : List (Option Told)) → IsBegun limit old places c start
+    → AreToldTo (state_of old places) places c start q told → IsNext old places c q nodes was
+    → delta_in (wave_deltas (state_of old places) (command c)) was.list ≡ no_change (length (shown (state_of old places) was.list))
+    → shown (wave (state_of old places) (command c)) was.list ≡ shown (state_of old places) was.list → AreToldTo (state_of old places) places c start (suc q) told
+told_still limit old places c start q nodes was told begun to next pieces stays = record {
   long = to.long;
   each = λ list within low. by_each list within low (ltb (slice_index places list) q) refl;
   same = λ list within low none. by_same list within low none (ltb (slice_index places list) q) refl;
   others = λ list within high. to.others list within (omega (arith, high));
-  quiet = λ high. to.quiet (omega (arith, high));
+  quiet = λ no. to.quiet (λ h. no (begun_later places start q h));
 }
   where
     s : State
     s = state_of old places
 
     is_next : (list : ℕ) → list < length places → slice_index places list < suc q → q ≤ slice_index places list → list ≡ was.list
-    is_next list within low high = the_next limit old places command q nodes was list begun next within (omega (arith, low, high))
+    is_next list within low high = the_next limit old places c start q nodes was list begun next within (omega (arith, low, high))
 
     by_each : (list : ℕ) → list < length places → slice_index places list < suc q → (t : Bool) → ltb (slice_index places list) q ≡ t
-        → IsTold (length (shown s list)) (delta_in (wave_deltas s command) list) (slice_index_or told list None)
+        → IsTold (length (shown s list)) (delta_in (wave_deltas s (command c)) list) (slice_index_or told list None)
     by_each list within low true e = to.each list within (ltb-true (slice_index places list) q e)
     by_each list within low false e =
         let high : q ≤ slice_index places list = ltb-false (slice_index places list) q e in
         let none : slice_index_or told list None ≡ None = to.others list within high in
-        subst (IsTold (length (shown s list)) (delta_in (wave_deltas s command) list)) (sym none)
-        (subst (λ l. delta_in (wave_deltas s command) l ≡ identity (length (shown s l))) (sym (is_next list within low high)) pieces)
+        subst (IsTold (length (shown s list)) (delta_in (wave_deltas s (command c)) list)) (sym none)
+        (subst (λ l. delta_in (wave_deltas s (command c)) l ≡ no_change (length (shown s l))) (sym (is_next list within low high)) pieces)
 
     by_same : (list : ℕ) → list < length places → slice_index places list < suc q → slice_index_or told list None ≡ None → (t : Bool) → ltb (slice_index places list) q ≡ t
-        → shown (wave s command) list ≡ shown s list
+        → shown (wave s (command c)) list ≡ shown s list
     by_same list within low none true e = to.same list within (ltb-true (slice_index places list) q e) none
     by_same list within low none false e =
-        subst (λ l. shown (wave s command) l ≡ shown s l) (sym (is_next list within low (ltb-false (slice_index places list) q e))) stays
+        subst (λ l. shown (wave s (command c)) l ≡ shown s l) (sym (is_next list within low (ltb-false (slice_index places list) q e))) stays
 
--- its delta is put there unless it is the identity
-pub told_put : (limit : ℕ) (old : List Node) (places : List ℕ) (command : Command) (q : ℕ) (nodes : List Node) (was now : Node) (told after : List (Option Told)) (done : Told × KernelUndo)
-    → IsBegun limit old places command → AreToldTo (state_of old places) places command q told → IsNext old places command q nodes was
-    → IsOnBy old places command q nodes was now done → IsPut was.list done.0 told after → AreToldTo (state_of old places) places command (suc q) after
-told_put limit old places command q nodes was now told after done begun to next on put = elim put [
+-- its delta is put there unless it is the no_change
+pub told_put : (limit : ℕ) (old : List Node) (places : List ℕ) (c : Command) (start : Option ℕ) (q : ℕ) (nodes : List Node) (was now : Node) (told after : List (Option Told)) (done : Told × KeepsUndo)
+    → IsBegun limit old places c start → AreToldTo (state_of old places) places c start q told → IsNext old places c q nodes was
+    → IsOnBy old places c start q nodes was now done → IsPut was.list done.0 told after → AreToldTo (state_of old places) places c start (suc q) after
+told_put limit old places c start q nodes was now told after done begun to next on put = elim put [
   | inl h ↦
-      let pieces : delta_in (wave_deltas s command) l ≡ identity (length (shown s l)) =
-      sym on.told ∙ (h.0 ∙ ap identity (ap old_len on.told ∙ sym (length_from (delta_in (wave_deltas s command) l) (shown s l) lead.starts))) in
-      let stays : shown (wave s command) l ≡ shown s l = identity_same (length (shown s l)) (shown s l) (shown (wave s command) l) (subst (λ ps. IsDelta ps (shown s l) (shown (wave s command) l)) pieces lead) in
-      subst (AreToldTo s places command (suc q)) (sym h.1) (told_still limit old places command q nodes was told begun to next pieces stays)
-  | inr h ↦ subst (AreToldTo s places command (suc q)) (sym h.1) (record {
+      let pieces : delta_in (wave_deltas s (command c)) l ≡ no_change (length (shown s l)) =
+      sym on.told ∙ (h.0 ∙ ap no_change (ap old_len on.told ∙ sym (length_from (delta_in (wave_deltas s (command c)) l) (shown s l) lead.starts))) in
+      let stays : shown (wave s (command c)) l ≡ shown s l = none_same (length (shown s l)) (shown s l) (shown (wave s (command c)) l) (subst (λ ps. IsDelta ps (shown s l) (shown (wave s (command c)) l)) pieces lead) in
+      subst (AreToldTo s places c start (suc q)) (sym h.1) (told_still limit old places c start q nodes was told begun to next pieces stays)
+  | inr h ↦ subst (AreToldTo s places c start (suc q)) (sym h.1) (record {
     long = set_long told l (Some done.0) ∙ to.long;
     each = λ list within low. by_each h.0 list within low (ltb (slice_index places list) q) refl;
     same = λ list within low none. by_same list within low none (ltb (slice_index places list) q) refl;
     others = λ list within high. put_there told l list (Some done.0) (λ e. apart list e (omega (arith, high))) ∙ to.others list within (omega (arith, high));
-    quiet = λ high. absurd (omega (arith, high, on.late));
+    quiet = λ no. absurd (no on.late);
   })
 ]
   where
@@ -94,8 +96,8 @@ told_put limit old places command q nodes was now told after done begun to next 
     l : ℕ
     l = was.list
 
-    lead : IsDelta (delta_in (wave_deltas s command) l) (shown s l) (shown (wave s command) l)
-    lead = (wave_leads s command begun.graph.ordered on.none).each l (omega (arith, next.within, length-table_of s))
+    lead : IsDelta (delta_in (wave_deltas s (command c)) l) (shown s l) (shown (wave s (command c)) l)
+    lead = (graph_leads old places c begun.graph.ordered on.none).each l (omega (arith, next.within, length-table_of s))
 
     here : slice_index_or (slice_set told l (Some done.0)) l None ≡ Some done.0
     here = put_here told l (Some done.0) (omega (arith, next.within, to.long, long_state old places))
@@ -104,26 +106,26 @@ told_put limit old places command q nodes was now told after done begun to next 
     apart list e other = other (ap (slice_index places) e ∙ next.turn.placed)
 
     is_next : (list : ℕ) → list < length places → slice_index places list < suc q → q ≤ slice_index places list → list ≡ l
-    is_next list within low high = the_next limit old places command q nodes was list begun next within (omega (arith, low, high))
+    is_next list within low high = the_next limit old places c start q nodes was list begun next within (omega (arith, low, high))
 
-    changes : done.0.pieces ≢ identity (old_len done.0.pieces) → done.0.pieces ≢ identity (length (shown s l))
-    changes other e = other (e ∙ ap identity (sym (old_len-identity (length (shown s l))) ∙ ap old_len (sym e)))
+    changes : done.0.pieces ≢ no_change (old_len done.0.pieces) → done.0.pieces ≢ no_change (length (shown s l))
+    changes other e = other (e ∙ ap no_change (sym (old_len-identity (length (shown s l))) ∙ ap old_len (sym e)))
 
-    by_each : done.0.pieces ≢ identity (old_len done.0.pieces) → (list : ℕ) → list < length places → slice_index places list < suc q → (t : Bool) → ltb (slice_index places list) q ≡ t
-        → IsTold (length (shown s list)) (delta_in (wave_deltas s command) list) (slice_index_or (slice_set told l (Some done.0)) list None)
+    by_each : done.0.pieces ≢ no_change (old_len done.0.pieces) → (list : ℕ) → list < length places → slice_index places list < suc q → (t : Bool) → ltb (slice_index places list) q ≡ t
+        → IsTold (length (shown s list)) (delta_in (wave_deltas s (command c)) list) (slice_index_or (slice_set told l (Some done.0)) list None)
     by_each other list within low true e =
         let less : slice_index places list < q = ltb-true (slice_index places list) q e in
-        subst (IsTold (length (shown s list)) (delta_in (wave_deltas s command) list)) (sym (put_there told l list (Some done.0) (λ f. apart list f (λ g. omega (arith, less, g)))))
+        subst (IsTold (length (shown s list)) (delta_in (wave_deltas s (command c)) list)) (sym (put_there told l list (Some done.0) (λ f. apart list f (λ g. omega (arith, less, g)))))
         (to.each list within less)
     by_each other list within low false e =
-        subst (λ k. IsTold (length (shown s k)) (delta_in (wave_deltas s command) k) (slice_index_or (slice_set told l (Some done.0)) k None)) (sym (is_next list within low (ltb-false (slice_index places list) q e)))
-        (subst (IsTold (length (shown s l)) (delta_in (wave_deltas s command) l)) (sym here) (on.told, changes other))
+        subst (λ k. IsTold (length (shown s k)) (delta_in (wave_deltas s (command c)) k) (slice_index_or (slice_set told l (Some done.0)) k None)) (sym (is_next list within low (ltb-false (slice_index places list) q e)))
+        (subst (IsTold (length (shown s l)) (delta_in (wave_deltas s (command c)) l)) (sym here) (on.told, changes other))
 
     nothing : slice_index_or (slice_set told l (Some done.0)) l None ≡ None → ⊥
     nothing e = let both : Some done.0 ≡ None = sym here ∙ e in absurd cc
 
     by_same : (list : ℕ) → list < length places → slice_index places list < suc q → slice_index_or (slice_set told l (Some done.0)) list None ≡ None → (t : Bool) → ltb (slice_index places list) q ≡ t
-        → shown (wave s command) list ≡ shown s list
+        → shown (wave s (command c)) list ≡ shown s list
     by_same list within low none true e =
         let less : slice_index places list < q = ltb-true (slice_index places list) q e in
         to.same list within less (sym (put_there told l list (Some done.0) (λ f. apart list f (λ g. omega (arith, less, g)))) ∙ none)

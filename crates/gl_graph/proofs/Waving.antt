@@ -1,117 +1,137 @@
 -- What a command comes to, list by list.
-use Rattle.std.proofs.Common.{◌≡◌, ◌≢◌, ◌∙◌, ℕ, ◌<◌, Bool, true, false, List, [], length, refl, ap, sym, subst, eqb, eq-eqb}
-use Rattle.std.specs.Prelude.{Some, None}
+use Rattle.std.proofs.Common.{◌≡◌, ◌≢◌, ◌∙◌, ℕ, ◌<◌, ◌==◌, Bool, true, false, List, length, refl, ap, subst, eqb, eq-eqb}
+use Rattle.std.specs.Prelude.{⊤, Option, Some, None, if◌then◌else◌}
 use Rattle.std.specs.Option.{option_or}
-use Rattle.std.specs.List.{Contains}
 use Rattle.std.proofs.lemmas.Bool.{eqb-true}
-use Rattle.spec_order.proofs.Members.{Contains-here}
 use Rattle.spec_value.specs.Tree.{Tree}
-use Rattle.spec_lang.specs.Matcher.{accepts}
-use Rattle.spec_lang.specs.Func.{eval}
-use Rattle.spec_lists.specs.Piece.{Piece}
-use Rattle.spec_views.specs.Filter.{filter_follow, filter_change}
-use Rattle.spec_views.specs.Range.{range_follow, range_change}
-use Rattle.spec_views.specs.Function.{function_follow, function_change}
+use Rattle.spec_lists.specs.Delta.{Delta}
+use Rattle.spec_lists.specs.Leads.{applied}
+use Rattle.spec_lists.proofs.Leading.{applied_no_change}
+use Rattle.spec_views.specs.View.{View, filter, sorted, unique, grouping, range, function, collection, Parameter}
 use Rattle.gl_lines.specs.declared.plan.Command.{Command}
 use Rattle.gl_lines.specs.declared.plan.Command.TheVariants as c
-use Rattle.spec_plans.specs.Plan.{origin}
-use Rattle.spec_states.specs.State.{Own, State, source, filtering, ranging, mapping, unbuilt, inputs, own_at}
-use Rattle.spec_states.specs.Shown.{shown}
-use Rattle.spec_states.specs.Wave.{delta_in, matcher_after, bounds_after, func_after, kept_after, wave, change, follow, wave_delta, wave_deltas}
-use Rattle.spec_states.specs.Step.{contents_len, out_of_range, past_end, refusal, too_long, unmoved}
-use Rattle.spec_states.specs.Laws.{IsOrdered}
-use Rattle.spec_states.proofs.Settling.{set_same, set_other}
-use Rattle.spec_states.proofs.Waves.{each_follows}
-use Rattle.gl_graph.specs.declared.kernel.Kernel.{Kernel}
-use Rattle.gl_graph.specs.declared.kernel.Kernel.TheVariants.{Source, Filter, Range, Function}
-use Rattle.gl_graph.specs.Nodes.{own_of, input_of}
-use Rattle.gl_graph.specs.Commands.{Suits, refused}
+use Rattle.spec_plans.specs.Plan.{origin as about}
+use Rattle.spec_states.specs.State.{Own, State, source, over, own_at}
+use Rattle.spec_states.specs.Shown.{shown, is_held, table_of}
+use Rattle.spec_states.specs.Wave.{command, beginning, first_delta, kept_after, kept_behind, parameter_of, delta_in, wave, follow, wave_delta, wave_deltas}
+use Rattle.spec_states.specs.Step.{refusal, refused_by, too_long, unmoved}
+use Rattle.spec_states.specs.Laws.{IsOrdered, IsSound, Lead, MayAttach, MayTake}
+use Rattle.spec_states.proofs.Views.{IsInward, own_at_wave, wave_inward}
+use Rattle.gl_graph.specs.declared.node.Node.{Node}
+use Rattle.gl_graph.specs.Nodes.{state_of}
+use Rattle.gl_graph.specs.Commands.{IsEdit, Gives, Suits}
+use Rattle.gl_graph.specs.Spread.{start_of}
+use Rattle.gl_graph.proofs.Plain.{IsPlain, state_plain, state_sound, state_inward}
+use Rattle.spec_states.proofs.Waves.{each_follows, wave_leads}
 
--- what is told of a list goes by what its inputs show, and by what is told of them
-pub change_local : (command : Command) (own : Own) (f g : ℕ → List Tree) → ((i : ℕ) → Contains (inputs own) i → f i ≡ g i) → change command own f ≡ change command own g
-change_local command (source contents) f g same = refl
-change_local command (filtering input matcher) f g same = ap (filter_change (accepts matcher) (accepts (matcher_after command matcher))) (same input (Contains-here input [] input refl))
-change_local command (ranging input bounds) f g same = ap (range_change bounds (bounds_after command bounds)) (same input (Contains-here input [] input refl))
-change_local command (mapping input func) f g same = ap (function_change (eval func) (eval (func_after command func))) (same input (Contains-here input [] input refl))
-change_local command (unbuilt all) f g same = refl
+-- a command that suits a list edits it or gives it a parameter
+abbrev IsGiven : Option Parameter → Type 0
+IsGiven None = ⊥
+IsGiven (Some given) = ⊤
 
-pub follow_local : (own : Own) (f g : ℕ → List Tree) (d e : ℕ → List Piece) → ((i : ℕ) → Contains (inputs own) i → f i ≡ g i) → ((i : ℕ) → Contains (inputs own) i → d i ≡ e i)
-    → follow own f d ≡ follow own g e
-follow_local (source contents) f g d e same told = refl
-follow_local (filtering input matcher) f g d e same told =
-    ap (λ xs. filter_follow (accepts matcher) xs (d input)) (same input (Contains-here input [] input refl))
-    ∙ ap (filter_follow (accepts matcher) (g input)) (told input (Contains-here input [] input refl))
-follow_local (ranging input bounds) f g d e same told =
-    ap (λ xs. range_follow bounds xs (d input)) (same input (Contains-here input [] input refl))
-    ∙ ap (range_follow bounds (g input)) (told input (Contains-here input [] input refl))
-follow_local (mapping input func) f g d e same told = ap (function_follow (eval func)) (told input (Contains-here input [] input refl))
-follow_local (unbuilt all) f g d e same told = refl
+given : (view : View) (p : Option Parameter) → Gives view p → IsGiven p
+given view (Some p) h = tt
+given (filter old) None h = h
+given (sorted old) None h = h
+given (unique old) None h = h
+given (grouping old) None h = h
+given (range old) None h = h
+given (function old) None h = h
+given (collection path) None h = h
 
--- the delta of the list that a command is about, and of any other
-pub delta_of_origin : (s : State) (command : Command) (list : ℕ) → IsOrdered s → list < length s → list ≡ origin command
-    → delta_in (wave_deltas s command) list ≡ change command (own_at s list) (shown s)
-delta_of_origin s command list h within same = each_follows s command list h within ∙ chosen
+never : (of : Command) (own : Own) → parameter_of of ≡ None → (IsEdit of → ⊥) → Suits of own → ⊥
+never of (source contents) e f h = f h
+never of (over input view) e f h = subst IsGiven e (given view (parameter_of of) h)
+never of other e f h = h
+
+-- its wave begins at the list that it is about
+begins_at : (of : Command) (number : ℕ) (own : Own) → Suits of own → beginning of number own ≡ Some number
+begins_at (c.Begin list) number own h = absurd (never (c.Begin list) own refl (λ x. x) h)
+begins_at (c.Commit list) number own h = absurd (never (c.Commit list) own refl (λ x. x) h)
+begins_at (c.Rollback list) number own h = absurd (never (c.Rollback list) own refl (λ x. x) h)
+begins_at (c.Freeze list) number own h = absurd (never (c.Freeze list) own refl (λ x. x) h)
+begins_at (c.Show list) number own h = absurd (never (c.Show list) own refl (λ x. x) h)
+begins_at other number own h = refl
+
+pub starts_at : (s : State) (c : Command) → Suits c (own_at s (about c)) → start_of s c ≡ Some (about c)
+starts_at s c suits = begins_at c (about c) (own_at s (about c)) suits
+
+-- the delta of that list, and of any other
+pub delta_of_start : (s : State) (c : Command) (list : ℕ) → IsSound s → list < length s → list ≡ about c → Suits c (own_at s (about c))
+    → delta_in (wave_deltas s (command c)) list ≡ first_delta c (own_at s list) (shown s)
+delta_of_start s c list sound within same suits = each_follows s (command c) list sound within ∙ chosen
   where
-    chosen : wave_delta command s (shown s) list (delta_in (wave_deltas s command)) ≡ change command (own_at s list) (shown s)
-    chosen = rw (eq-eqb list (origin command) same) refl
+    chosen : wave_delta (command c) s (shown s) list (delta_in (wave_deltas s (command c))) ≡ first_delta c (own_at s list) (shown s)
+    chosen = rw (starts_at s c suits, eq-eqb list (about c) same, same) refl
 
-pub delta_of_other : (s : State) (command : Command) (list : ℕ) → IsOrdered s → list < length s → list ≢ origin command
-    → delta_in (wave_deltas s command) list ≡ follow (own_at s list) (shown s) (delta_in (wave_deltas s command))
-delta_of_other s command list h within other = each_follows s command list h within ∙ chosen (eqb list (origin command)) refl
+unheld : (own : Own) → IsPlain own → is_held own ≡ false
+unheld (source contents) h = refl
+unheld (over input view) h = refl
+unheld other h = absurd h
+
+pub delta_of_other : (s : State) (c : Command) (list : ℕ) → IsSound s → list < length s → list ≢ about c → Suits c (own_at s (about c)) → IsPlain (own_at s list)
+    → delta_in (wave_deltas s (command c)) list ≡ follow (own_at s list) (shown s) (delta_in (wave_deltas s (command c)))
+delta_of_other s c list sound within other suits plain = each_follows s (command c) list sound within ∙ chosen (eqb list (about c)) refl
   where
-    chosen : (t : Bool) → eqb list (origin command) ≡ t → wave_delta command s (shown s) list (delta_in (wave_deltas s command)) ≡ follow (own_at s list) (shown s) (delta_in (wave_deltas s command))
-    chosen true e = absurd (other (eqb-true list (origin command) e))
-    chosen false e = rw e refl
+    chosen : (t : Bool) → eqb list (about c) ≡ t
+        → wave_delta (command c) s (shown s) list (delta_in (wave_deltas s (command c))) ≡ follow (own_at s list) (shown s) (delta_in (wave_deltas s (command c)))
+    chosen true e = absurd (other (eqb-true list (about c) e))
+    chosen false e = rw (starts_at s c suits, e, unheld (own_at s list) plain) refl
 
 -- what these keep afterwards
-pub own_of_origin : (s : State) (command : Command) (list : ℕ) → list < length s → list ≡ origin command → own_at (wave s command) list ≡ kept_after command (own_at s list)
-own_of_origin s command list within same =
-    let low : origin command < length s = subst (λ k. k < length s) same within in
-    subst (λ k. own_at (wave s command) k ≡ kept_after command (own_at s k)) (sym same) (set_same (source []) s (origin command) (kept_after command (own_at s (origin command))) low)
+pub own_of_start : (s : State) (c : Command) (list : ℕ) → list < length s → list ≡ about c → own_at (wave s (command c)) list ≡ kept_after c (shown s) (own_at s list)
+own_of_start s c list within same = own_at_wave s (command c) list within ∙ chosen
+  where
+    chosen : (if list == about c then kept_after c (shown s) (own_at s list) else kept_behind list (own_at s list) (delta_in (wave_deltas s (command c)))) ≡ kept_after c (shown s) (own_at s list)
+    chosen = rw (eq-eqb list (about c) same) refl
 
-pub own_of_other : (s : State) (command : Command) (list : ℕ) → list ≢ origin command → own_at (wave s command) list ≡ own_at s list
-own_of_other s command list other = set_other (source []) s (origin command) list (kept_after command (own_at s (origin command))) other
+kept_same : (list : ℕ) (own : Own) (shows : ℕ → List Tree) (delta : ℕ → Delta) → IsPlain own → delta list ≡ follow own shows delta → kept_behind list own delta ≡ own
+kept_same list (source contents) shows delta plain e = ap source (ap (λ d. applied d contents) e ∙ applied_no_change contents)
+kept_same list (over input view) shows delta plain e = refl
+kept_same list other shows delta plain e = absurd plain
 
--- the refusal of the state is that of the source that the command is about
-pub refusal_is : (s : State) (command : Command) (own : Own) → own_at s (origin command) ≡ own → Suits command own → refusal s command ≡ refused command (contents_len own)
-refusal_is s (c.Add list value) (source xs) e h = refl
-refusal_is s (c.AddAll list values) (source xs) e h = refl
-refusal_is s (c.Insert list index value) (source xs) e h = ap (λ o. past_end index (contents_len o)) e
-refusal_is s (c.Set list index value) (source xs) e h = ap (λ o. out_of_range index (contents_len o)) e
-refusal_is s (c.Remove list index) (source xs) e h = ap (λ o. out_of_range index (contents_len o)) e
-refusal_is s (c.Clear list) (source xs) e h = refl
-refusal_is s other (source xs) e h = absurd h
-refusal_is s (c.Match list matcher) (filtering input old) e h = refl
-refusal_is s other (filtering input old) e h = absurd h
-refusal_is s (c.Bounds list bounds) (ranging input old) e h = refl
-refusal_is s other (ranging input old) e h = absurd h
-refusal_is s (c.Apply list func) (mapping input old) e h = refl
-refusal_is s other (mapping input old) e h = absurd h
-refusal_is s command (unbuilt all) e h = absurd h
+pub own_of_other : (s : State) (c : Command) (list : ℕ) → IsSound s → list < length s → list ≢ about c → Suits c (own_at s (about c)) → IsPlain (own_at s list)
+    → own_at (wave s (command c)) list ≡ own_at s list
+own_of_other s c list sound within other suits plain = own_at_wave s (command c) list within ∙ chosen (eqb list (about c)) refl
+  where
+    chosen : (t : Bool) → eqb list (about c) ≡ t
+        → (if t then kept_after c (shown s) (own_at s list) else kept_behind list (own_at s list) (delta_in (wave_deltas s (command c)))) ≡ own_at s list
+    chosen true e = absurd (other (eqb-true list (about c) e))
+    chosen false e = kept_same list (own_at s list) (shown s) (delta_in (wave_deltas s (command c))) plain (delta_of_other s c list sound within other suits plain)
 
--- a list that follows another isn't refused its parameter
-pub derived_inside : (command : Command) (kernel : Kernel) (input : ℕ) → input_of kernel ≡ Some input → Suits command (own_of kernel) → refused command (contents_len (own_of kernel)) ≡ None
-derived_inside command (Source k) input e h = absurd cc
-derived_inside (c.Match list matcher) (Filter j k) input e h = refl
-derived_inside other (Filter j k) input e h = absurd h
-derived_inside (c.Bounds list bounds) (Range j k) input e h = refl
-derived_inside other (Range j k) input e h = absurd h
-derived_inside (c.Apply list func) (Function j k) input e h = refl
-derived_inside other (Function j k) input e h = absurd h
+-- a list over another isn't refused its parameter
+pub given_inside : (of : Command) (input : ℕ) (view : View) → Gives view (parameter_of of) → refused_by (over input view) of ≡ None
+given_inside (c.Match list m) input view h = refl
+given_inside (c.Order list keys) input view h = refl
+given_inside (c.Bounds list b) input view h = refl
+given_inside (c.Apply list f) input view h = refl
+given_inside other input view h = absurd (given view None h)
 
 -- a command that suits a list makes a wave, or is refused for one of two reasons
-pub unmoved_is : (limit : ℕ) (s : State) (command : Command) (own : Own) → Suits command own → unmoved limit s command ≡ option_or (refusal s command) (too_long limit (wave s command))
-unmoved_is limit s (c.Add list value) (source xs) h = refl
-unmoved_is limit s (c.AddAll list values) (source xs) h = refl
-unmoved_is limit s (c.Insert list index value) (source xs) h = refl
-unmoved_is limit s (c.Set list index value) (source xs) h = refl
-unmoved_is limit s (c.Remove list index) (source xs) h = refl
-unmoved_is limit s (c.Clear list) (source xs) h = refl
-unmoved_is limit s other (source xs) h = absurd h
-unmoved_is limit s (c.Match list matcher) (filtering input old) h = refl
-unmoved_is limit s other (filtering input old) h = absurd h
-unmoved_is limit s (c.Bounds list bounds) (ranging input old) h = refl
-unmoved_is limit s other (ranging input old) h = absurd h
-unmoved_is limit s (c.Apply list func) (mapping input old) h = refl
-unmoved_is limit s other (mapping input old) h = absurd h
-unmoved_is limit s command (unbuilt all) h = absurd h
+pub unmoved_is : (limit : ℕ) (s : State) (c : Command) (own : Own) → Suits c own → unmoved limit s c ≡ option_or (refusal s c) (too_long limit (wave s (command c)))
+unmoved_is limit s (c.Show list) own h = absurd (never (c.Show list) own refl (λ x. x) h)
+unmoved_is limit s other own h = refl
+
+-- the wave leads
+may_attach : (of : Command) (own : Own) → IsPlain own → MayAttach of own
+may_attach (c.Attach list member) (source contents) h = tt
+may_attach (c.Attach list member) (over input view) h = tt
+may_attach (c.Attach list member) other h = absurd h
+may_attach of own h = tt
+
+may_take : (of : Command) (own : Own) → IsPlain own → MayTake of own
+may_take of (source contents) h = tt
+may_take of (over input view) h = tt
+may_take of other h = absurd h
+
+pub graph_leads : (nodes : List Node) (places : List ℕ) (c : Command) → IsOrdered (state_of nodes places) → refusal (state_of nodes places) c ≡ None
+    → Lead (wave_deltas (state_of nodes places) (command c)) (table_of (state_of nodes places)) (table_of (wave (state_of nodes places) (command c)))
+graph_leads nodes places c ordered none =
+    let s : State = state_of nodes places in
+    let plain = state_plain nodes places (about c) in
+    wave_leads s c (state_sound nodes places ordered) none (may_attach c (own_at s (about c)) plain) (may_take c (own_at s (about c)) plain)
+
+pub wave_plain : (nodes : List Node) (places : List ℕ) (c : Command) → IsInward (wave (state_of nodes places) (command c))
+wave_plain nodes places c =
+    let s : State = state_of nodes places in
+    wave_inward s (command c) (may_attach c (own_at s (about c)) (state_plain nodes places (about c))) (state_inward nodes places)

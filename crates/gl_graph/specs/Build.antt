@@ -1,11 +1,12 @@
 -- How the lists of a plan open one after another.
-use Rattle.std.specs.Prelude.{◌≡◌, ◌<◌, ◌≤◌, ◌++◌, ◌∷◌, [], ℕ, List, length, map, take, slice_get, Some, None}
+use Rattle.std.specs.Prelude.{◌≡◌, ◌<◌, ◌≤◌, ◌++◌, ◌∷◌, ⊤, [], ℕ, List, length, map, take, slice_get, Some, None}
 use Rattle.gl_lines.specs.declared.plan.ListDecl.{ListDecl}
 use Rattle.gl_lines.specs.declared.reply.Reply.TheVariants as reply
-use Rattle.spec_states.specs.State.{Own, State, own_at, opening_of, turns}
+use Rattle.spec_states.specs.State.{Own, State, own_at, turns}
 use Rattle.spec_states.specs.Step.{too_long}
 use Rattle.spec_states.specs.Laws.{IsOrdered}
-use Rattle.spec_states.specs.Shown.{view}
+use Rattle.spec_states.specs.Shown.{shown_of}
+use Rattle.spec_states.specs.Opening.{seen_through}
 use Rattle.gl_graph.specs.declared.node.Node.{Node}
 use Rattle.gl_graph.specs.declared.start.Turns.{Turns}
 use Rattle.gl_graph.specs.declared.fault.BuildFault.{BuildFault}
@@ -20,27 +21,27 @@ pub record IsOneMore (limit : ℕ) (places : List ℕ) (list : ℕ) (own : Own) 
   pub node : Node
   pub is : after ≡ before ++ node ∷ []
   pub list_is : node.list ≡ list
-  pub own_is : own_of node.kernel ≡ own
-  pub stands : StandsFor node.kernel (shown_by before places)
-  pub limited : IsLimited limit node.kernel
-  pub within : length (view own (shown_by before places)) ≤ limit
+  pub own_is : own_of node.keeps ≡ own
+  pub stands : StandsFor node.keeps (shown_by before places)
+  pub limited : IsLimited limit node.keeps
+  pub within : length (shown_of own (shown_by before places)) ≤ limit
 
 -- the list would show so many elements, which are too many
 abbrev pub IsFault : ℕ → ℕ → ℕ → BuildFault → Type 0
 IsFault limit list len (TooLong number n) = (number ≡ list) × (n ≡ len) × (limit < len)
-IsFault limit list len Memory = Unit {0}
+IsFault limit list len Memory = ⊤
 
 -- the nodes of the first lists in an order, which keep what the state says
 pub record AreOpened (limit : ℕ) (s : State) (places order : List ℕ) (k : ℕ) (nodes : List Node) : Type 0 where
   pub order_is : numbers nodes ≡ take k order
   pub settled : AreSettled nodes places
-  pub own : (p : ℕ) (n : Node) → slice_get nodes p ≡ Some n → own_of n.kernel ≡ own_at s n.list
-  pub limited : (p : ℕ) (n : Node) → slice_get nodes p ≡ Some n → IsLimited limit n.kernel
+  pub own : (p : ℕ) (n : Node) → slice_get nodes p ≡ Some n → own_of n.keeps ≡ own_at s n.list
+  pub limited : (p : ℕ) (n : Node) → slice_get nodes p ≡ Some n → IsLimited limit n.keeps
   pub within : (p : ℕ) (n : Node) → slice_get nodes p ≡ Some n → length (shown_by nodes places n.list) ≤ limit
 
--- what the lists of a plan open with
+-- what lists open with that are no proxies
 abbrev pub opened_lists : List ListDecl → State
-opened_lists lists = map (λ (d : ListDecl). opening_of d.kind) lists
+opened_lists lists = map (λ (d : ListDecl). seen_through d.kind) lists
 
 -- the lists may be opened in this order, which is that of their dependencies, with these places
 pub record AreReady (limit : ℕ) (lists : List ListDecl) (places order : List ℕ) : Type 0 where
@@ -55,7 +56,7 @@ pub record AreReady (limit : ℕ) (lists : List ListDecl) (places order : List �
 -- why lists that open so aren't opened
 abbrev pub IsReason : ℕ → State → BuildFault → Type 0
 IsReason limit s (TooLong list len) = too_long limit s ≡ Some (reply.TooLong list len)
-IsReason limit s Memory = Unit {0}
+IsReason limit s Memory = ⊤
 
 -- the nodes are a graph of what these lists open with, none of which is too long
 pub record AreOpen (limit : ℕ) (lists : List ListDecl) (nodes : List Node) (places : List ℕ) : Type 0 where
@@ -65,11 +66,11 @@ pub record AreOpen (limit : ℕ) (lists : List ListDecl) (nodes : List Node) (pl
 
 -- the lists may be opened in turn
 abbrev pub AreTurns : Turns → Type 0
-AreTurns t = AreReady t.limit t.lists.now t.places.items t.order
+AreTurns t = AreReady t.limit t.lists.now t.places.items t.order.now
 
 -- those at the first k places of the order are open
 abbrev pub AreOpenTo : Turns → ℕ → List Node → Type 0
-AreOpenTo t k nodes = AreOpened t.limit (opened_lists t.lists.now) t.places.items t.order k nodes
+AreOpenTo t k nodes = AreOpened t.limit (opened_lists t.lists.now) t.places.items t.order.now k nodes
 
 -- all are
 abbrev pub AllAreOpen : Turns → List Node → Type 0

@@ -1,47 +1,60 @@
 -- Which commands suit which lists, and the edits of sources that they come to.
-use Rattle.std.specs.Prelude.{◌≡◌, ◌<◌, ◌≤◌, ℕ, [], ◌∷◌, Option, None, Some}
+use Rattle.std.specs.Prelude.{◌≡◌, ◌<◌, ◌≤◌, ⊤, ℕ, [], ◌∷◌, List, length, Option, None, Some}
+use Rattle.spec_value.specs.Tree.{Tree}
 use Rattle.gl_lines.specs.declared.plan.Command.{Command}
 use Rattle.gl_lines.specs.declared.plan.Command.TheVariants as c
-use Rattle.gl_lines.specs.declared.reply.Reply.{Reply}
 use Rattle.gl_lines.specs.declared.reply.Reply.TheVariants as reply
 use Rattle.gl_source.specs.declared.edit.Edit.{Edit}
 use Rattle.gl_source.specs.declared.edit.Edit.TheVariants as e
-use Rattle.spec_states.specs.State.{Own, source, filtering, ranging, mapping, unbuilt}
 use Rattle.gl_source.specs.declared.fault.EditFault.{EditFault}
 use Rattle.gl_source.specs.declared.fault.EditFault.TheVariants.{OutOfRange, TooLong, Memory}
-use Rattle.spec_states.specs.Step.{out_of_range, past_end, contents_len}
-use Rattle.spec_states.specs.Wave.{kept_after}
+use Rattle.spec_views.specs.View.{View, filter, sorted, unique, grouping, range, function, collection, Parameter, matcher, order, bounds, func}
+use Rattle.spec_states.specs.State.{Own, source, over}
+use Rattle.spec_states.specs.Step.{refused_by}
+use Rattle.spec_states.specs.Wave.{parameter_of, edited}
 
 -- the command edits a source
 abbrev pub IsEdit : Command → Type 0
-IsEdit (c.Add list value) = Unit {0}
-IsEdit (c.AddAll list values) = Unit {0}
-IsEdit (c.Insert list index value) = Unit {0}
-IsEdit (c.Set list index value) = Unit {0}
-IsEdit (c.Remove list index) = Unit {0}
-IsEdit (c.Clear list) = Unit {0}
+IsEdit (c.Add list value) = ⊤
+IsEdit (c.AddAll list values) = ⊤
+IsEdit (c.Insert list index value) = ⊤
+IsEdit (c.Set list index value) = ⊤
+IsEdit (c.Remove list index) = ⊤
+IsEdit (c.Clear list) = ⊤
 IsEdit other = ⊥
 
--- it gives another matcher, other bounds or another function
-abbrev pub IsMatch : Command → Type 0
-IsMatch (c.Match list matcher) = Unit {0}
-IsMatch other = ⊥
+-- a parameter of each kind is given
+abbrev pub IsMatcher : Option Parameter → Type 0
+IsMatcher (Some (matcher m)) = ⊤
+IsMatcher other = ⊥
 
-abbrev pub IsBounds : Command → Type 0
-IsBounds (c.Bounds list bounds) = Unit {0}
+abbrev pub IsOrder : Option Parameter → Type 0
+IsOrder (Some (order keys)) = ⊤
+IsOrder other = ⊥
+
+abbrev pub IsBounds : Option Parameter → Type 0
+IsBounds (Some (bounds b)) = ⊤
 IsBounds other = ⊥
 
-abbrev pub IsApply : Command → Type 0
-IsApply (c.Apply list func) = Unit {0}
-IsApply other = ⊥
+abbrev pub IsFunc : Option Parameter → Type 0
+IsFunc (Some (func f)) = ⊤
+IsFunc other = ⊥
+
+-- one is given that the kind of list takes
+abbrev pub Gives : View → Option Parameter → Type 0
+Gives (filter old) given = IsMatcher given
+Gives (sorted old) given = IsOrder given
+Gives (unique old) given = IsOrder given
+Gives (grouping old) given = IsOrder given
+Gives (range old) given = IsBounds given
+Gives (function old) given = IsFunc given
+Gives (collection path) given = ⊥
 
 -- it is one for a list that keeps this
 abbrev pub Suits : Command → Own → Type 0
 Suits c (source contents) = IsEdit c
-Suits c (filtering input matcher) = IsMatch c
-Suits c (ranging input bounds) = IsBounds c
-Suits c (mapping input func) = IsApply c
-Suits c (unbuilt all) = ⊥
+Suits c (over input view) = Gives view (parameter_of c)
+Suits c other = ⊥
 
 -- the edit that such a command comes to
 abbrev pub edit_for : Command → Edit
@@ -52,26 +65,20 @@ edit_for (c.Set list index value) = e.Set index value
 edit_for (c.Remove list index) = e.Remove index
 edit_for other = e.Clear
 
--- the refusal of a source of so many elements
-abbrev pub refused : Command → ℕ → Option Reply
-refused (c.Insert list index value) len = past_end index len
-refused (c.Set list index value) len = out_of_range index len
-refused (c.Remove list index) len = out_of_range index len
-refused other len = None
-
--- the edit has its place, and would make the source longer than it may be
-pub record IsTooLong (command : Command) (own : Own) (limit len : ℕ) : Type 0 where
-  pub inside : refused command (contents_len own) ≡ None
+-- the edit has its place in a source of these contents, and would make it longer than it may be
+pub record IsTooLong (c : Command) (contents : List Tree) (limit len : ℕ) : Type 0 where
+  pub inside : refused_by (source contents) c ≡ None
   pub past : limit < len
-  pub len_is : len ≡ contents_len (kept_after command own)
+  pub len_is : len ≡ length (edited c contents)
 
--- this is why a source that keeps this isn't edited, where it may have so many elements
-abbrev pub IsWhy : Command → Own → ℕ → EditFault → Type 0
-IsWhy command own limit (OutOfRange index len) = refused command (contents_len own) ≡ Some (reply.OutOfRange index len)
-IsWhy command own limit (TooLong len) = IsTooLong command own limit len
-IsWhy command own limit Memory = Unit {0}
+-- this is why a source of these contents isn't edited, where it may have so many elements
+abbrev pub IsWhy : Command → List Tree → ℕ → EditFault → Type 0
+IsWhy c contents limit (OutOfRange index len) =
+    refused_by (source contents) c ≡ Some (reply.OutOfRange index len)
+IsWhy c contents limit (TooLong len) = IsTooLong c contents limit len
+IsWhy c contents limit Memory = ⊤
 
 -- the edit has its place, and leaves the source no longer than it may be
-pub record IsMade (command : Command) (own : Own) (limit : ℕ) : Type 0 where
-  pub inside : refused command (contents_len own) ≡ None
-  pub few : contents_len (kept_after command own) ≤ limit
+pub record IsMade (c : Command) (contents : List Tree) (limit : ℕ) : Type 0 where
+  pub inside : refused_by (source contents) c ≡ None
+  pub few : length (edited c contents) ≤ limit

@@ -1,10 +1,10 @@
 -- What a graph keeps.
-use Rattle.std.specs.Prelude.{◌≡◌, ◌<◌, ◌≤◌, ℕ, List, length, slice_get, Some, None}
+use Rattle.std.specs.Prelude.{◌≡◌, ◌<◌, ◌≤◌, ⊤, ℕ, List, length, slice_get, Some, None}
 use Rattle.spec_states.specs.State.{State, turns}
 use Rattle.spec_states.specs.Step.{too_long}
 use Rattle.spec_states.specs.Laws.{IsOrdered}
-use Rattle.gl_graph.specs.declared.kernel.Kernel.{Kernel}
-use Rattle.gl_graph.specs.declared.kernel.Kernel.TheVariants.{Source, Filter, Range, Function}
+use Rattle.gl_graph.specs.declared.keeps.Keeps.{Keeps}
+use Rattle.gl_graph.specs.declared.keeps.Keeps.TheVariants.{Source, Over}
 use Rattle.gl_graph.specs.declared.node.Node.{Node}
 use Rattle.gl_graph.specs.Nodes.{numbers, IsPlaced, AreSettled}
 use Rattle.gl_graph.specs.Nodes as made
@@ -20,11 +20,9 @@ abbrev pub state_of : Kept → State
 state_of k = made.state_of k.nodes k.places
 
 -- a source may have so many elements
-abbrev pub IsLimited : ℕ → Kernel → Type 0
+abbrev pub IsLimited : ℕ → Keeps → Type 0
 IsLimited limit (Source k) = k.limit ≡ limit
-IsLimited limit (Filter input k) = Unit {0}
-IsLimited limit (Range input k) = Unit {0}
-IsLimited limit (Function input k) = Unit {0}
+IsLimited limit (Over input d) = ⊤
 
 -- Each list has its place, the nodes stand in the dependency order, each for what its input shows, and no list is too long.
 pub record IsGraph (limit : ℕ) (nodes : List Node) (places : List ℕ) : Type 0 where
@@ -34,5 +32,5 @@ pub record IsGraph (limit : ℕ) (nodes : List Node) (places : List ℕ) : Type 
   pub ordered : IsOrdered (made.state_of nodes places)
   pub order : turns (made.state_of nodes places) ≡ numbers nodes
   pub settled : AreSettled nodes places
-  pub limited : (place : ℕ) (node : Node) → slice_get nodes place ≡ Some node → IsLimited limit node.kernel
+  pub limited : (place : ℕ) (node : Node) → slice_get nodes place ≡ Some node → IsLimited limit node.keeps
   pub within : too_long limit (made.state_of nodes places) ≡ None

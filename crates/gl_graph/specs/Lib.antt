@@ -1,3 +1,4 @@
+pub mod Derived
 pub mod Nodes
 pub mod Kept
 pub mod Undos

@@ -1,50 +1,39 @@
 -- What the nodes of a graph keep and show.
-use Rattle.std.specs.Prelude.{◌≡◌, ◌<◌, ◌≤◌, ℕ, List, [], length, map, take, slice_get, slice_index, Option, Some, None}
+use Rattle.std.specs.Prelude.{◌≡◌, ◌<◌, ◌≤◌, ⊤, ℕ, List, [], length, map, take, slice_get, slice_index, Option, Some, None}
 use Rattle.std.specs.List.{range_with_len}
 use Rattle.spec_value.specs.Tree.{Tree}
-use Rattle.spec_states.specs.State.{Own, State, source, filtering, ranging, mapping}
+use Rattle.spec_states.specs.State.{Own, State, source, over}
 use Rattle.spec_states.specs.Shown.{nothing_shown, settled, shows_in}
-use Rattle.gl_filter.specs.Stands as filter
-use Rattle.gl_range.specs.Stands as range
-use Rattle.gl_function.specs.Stands as function
-use Rattle.gl_graph.specs.declared.kernel.Kernel.{Kernel}
-use Rattle.gl_graph.specs.declared.kernel.Kernel.TheVariants.{Source, Filter, Range, Function}
+use Rattle.gl_graph.specs.declared.keeps.Keeps.{Keeps}
+use Rattle.gl_graph.specs.declared.keeps.Keeps.TheVariants.{Source, Over}
 use Rattle.gl_graph.specs.declared.node.Node.{Node}
+use Rattle.gl_graph.specs.Derived.{view_of_derived}
+use Rattle.gl_graph.specs.Derived as derived
 
--- what a kernel keeps of its own
-abbrev pub own_of : Kernel → Own
+-- what a list keeps, as the state has it
+abbrev pub own_of : Keeps → Own
 own_of (Source k) = source k.values
-own_of (Filter input k) = filtering input k.matcher
-own_of (Range input k) = ranging input k.bounds
-own_of (Function input k) = mapping input k.func
+own_of (Over input d) = over input (view_of_derived d)
 
--- the kernel stands for what its input shows
-abbrev pub StandsFor : Kernel → (ℕ → List Tree) → Type 0
-StandsFor (Source k) shows = Unit {0}
-StandsFor (Filter input k) shows = filter.StandsFor k (shows input)
-StandsFor (Range input k) shows = range.StandsFor k (shows input)
-StandsFor (Function input k) shows = function.StandsFor k (shows input)
+-- the list stands for what its input shows
+abbrev pub StandsFor : Keeps → (ℕ → List Tree) → Type 0
+StandsFor (Source k) shows = ⊤
+StandsFor (Over input d) shows = derived.StandsFor d (shows input)
 
--- said of the input of a kernel, if it has one
-abbrev pub OnInput : (ℕ → Type 0) → Kernel → Type 0
-OnInput P (Source k) = Unit {0}
-OnInput P (Filter input k) = P input
-OnInput P (Range input k) = P input
-OnInput P (Function input k) = P input
+-- said of the input of a list, if it has one
+abbrev pub OnInput : (ℕ → Type 0) → Keeps → Type 0
+OnInput P (Source k) = ⊤
+OnInput P (Over input d) = P input
 
--- the number of the list that a kernel follows
-abbrev pub input_of : Kernel → Option ℕ
+-- the number of the list that it is over
+abbrev pub input_of : Keeps → Option ℕ
 input_of (Source k) = None
-input_of (Filter input k) = Some input
-input_of (Range input k) = Some input
-input_of (Function input k) = Some input
+input_of (Over input d) = Some input
 
--- what the input of a kernel shows; a source has none
-abbrev pub input_shown : Kernel → (ℕ → List Tree) → List Tree
+-- what its input shows; a source has none
+abbrev pub input_shown : Keeps → (ℕ → List Tree) → List Tree
 input_shown (Source k) shows = []
-input_shown (Filter input k) shows = shows input
-input_shown (Range input k) shows = shows input
-input_shown (Function input k) shows = shows input
+input_shown (Over input d) shows = shows input
 
 -- the numbers of the nodes, in their order
 abbrev pub numbers : List Node → List ℕ
@@ -53,7 +42,7 @@ numbers nodes = map (λ (n : Node). n.list) nodes
 -- what the list of a node keeps; without a node an empty source
 abbrev pub own_of_node : Option Node → Own
 own_of_node None = source []
-own_of_node (Some node) = own_of node.kernel
+own_of_node (Some node) = own_of node.keeps
 
 -- what the list of this number keeps, where each list has its place among the nodes
 abbrev pub own_in : List Node → List ℕ → ℕ → Own
@@ -77,7 +66,7 @@ pub record IsPlaced (nodes : List Node) (places : List ℕ) (list : ℕ) : Type 
 pub record IsInTurn (nodes : List Node) (places : List ℕ) (place : ℕ) (node : Node) : Type 0 where
   pub within : node.list < length places
   pub placed : slice_index places node.list ≡ place
-  pub behind : OnInput (IsPlaced (take place nodes) places) node.kernel
+  pub behind : OnInput (IsPlaced (take place nodes) places) node.keeps
 
 -- every node does
 abbrev pub AreInTurn : List Node → List ℕ → Type 0
@@ -86,7 +75,7 @@ AreInTurn nodes places = (place : ℕ) (node : Node) → slice_get nodes place �
 -- the node is in turn, and stands for what its input shows, within the limit of deltas
 pub record IsSettled (nodes : List Node) (places : List ℕ) (place : ℕ) (node : Node) : Type 0 where
   pub turn : IsInTurn nodes places place node
-  pub stands : StandsFor node.kernel (shown_by nodes places)
+  pub stands : StandsFor node.keeps (shown_by nodes places)
   pub few : length (shown_by nodes places node.list) ≤ 2147483647
 
 -- every node is settled

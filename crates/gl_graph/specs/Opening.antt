@@ -1,5 +1,5 @@
 -- Which lists a graph opens, and why it doesn't.
-use Rattle.std.specs.Prelude.{◌≡◌, ◌<◌, ℕ, List, slice_get, Some}
+use Rattle.std.specs.Prelude.{◌≡◌, ◌<◌, ⊤, ℕ, List, slice_get, Some}
 use Rattle.gl_lines.specs.declared.plan.ListDecl.{ListDecl}
 use Rattle.gl_lines.specs.declared.plan.ListKind.{ListKind}
 use Rattle.gl_lines.specs.declared.plan.ListKind.TheVariants as kinds
@@ -8,7 +8,7 @@ use Rattle.gl_source.specs.declared.fault.OpenFault.TheVariants.{TooLong, Memory
 
 -- the list is of a kind that is built, and this is said of its input, if it has one
 abbrev pub IsBuilt : (ℕ → Type 0) → ListKind → Type 0
-IsBuilt P (kinds.Source rows) = Unit {0}
+IsBuilt P (kinds.Source rows) = ⊤
 IsBuilt P (kinds.Filter input matcher) = P input
 IsBuilt P (kinds.Range input bounds) = P input
 IsBuilt P (kinds.Function input func) = P input
@@ -17,11 +17,11 @@ IsBuilt P other = ⊥
 -- the list would have so many elements, which are too many
 abbrev pub IsOver : ℕ → ℕ → OpenFault → Type 0
 IsOver limit len (TooLong n) = (n ≡ len) × (limit < len)
-IsOver limit len Memory = Unit {0}
+IsOver limit len Memory = ⊤
 
 -- the list is of a kind that is built
 abbrev pub IsKindBuilt : ListKind → Type 0
-IsKindBuilt kind = IsBuilt (λ input. Unit {0}) kind
+IsKindBuilt kind = IsBuilt (λ input. ⊤) kind
 
 -- all lists are
 abbrev pub AreKindsBuilt : List ListDecl → Type 0

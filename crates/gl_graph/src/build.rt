@@ -1,8 +1,8 @@
 //! How the lists of a plan open.
 
 ghost use Rattle.std.specs.Prelude.{◌≡◌, ◌≤◌, ◌++◌, ◌∷◌, [], length, IfErr, OnOk};
-ghost use Rattle.spec_states.specs.State.{opening_of};
-ghost use Rattle.spec_states.specs.Shown.{view};
+ghost use Rattle.spec_states.specs.Shown.{shown_of};
+ghost use Rattle.spec_states.specs.Opening.{seen_through};
 ghost use Rattle.gl_graph.specs.Nodes.{shown_by, AreSettled, IsPlaced};
 ghost use Rattle.gl_graph.specs.Opening.{IsBuilt};
 ghost use Rattle.gl_graph.specs.Build.{IsOneMore, IsFault};
@@ -29,12 +29,12 @@ pub(crate) fn open_next<L: Ledger>(
     requires settled { AreSettled nodes.old.items places.now }
     requires built { IsBuilt (IsPlaced nodes.old.items places.now) kind.now }
     requires few { limit ≤ 2147483647 }
-    ensures more { OnOk result (IsOneMore limit places.now list (opening_of kind.now) nodes.old.items nodes.new.items) }
-    ensures fault { IfErr result (IsFault limit list (length (view (opening_of kind.now) (shown_by nodes.old.items places.now)))) }
+    ensures more { OnOk result (IsOneMore limit places.now list (seen_through kind.now) nodes.old.items nodes.new.items) }
+    ensures fault { IfErr result (IsFault limit list (length (shown_of (seen_through kind.now) (shown_by nodes.old.items places.now)))) }
 {
     match opened(alloc, kind, nodes.as_slice(), places, limit, steps) {
-        Ok(kernel) => {
-            push(nodes, Node { list, kernel })?;
+        Ok(keeps) => {
+            push(nodes, Node { list, keeps })?;
             Ok(())
         }
         Err(OpenFault::TooLong { len }) => Err(BuildFault::TooLong { list, len }),

@@ -1,22 +1,35 @@
 //! The lists of a plan.
 
-ghost use Rattle.std.specs.Prelude.{◌≡◌, ◌<◌, ◌≤◌, None, length, slice_get, IfOk, IfErr, OnOk};
+ghost use Rattle.std.specs.Prelude.{◌≡◌, ◌<◌, None, Some, length, slice_get, IfOk, IfErr, OnOk, OnErr};
 ghost use Rattle.std.specs.Option.{option_copied};
-ghost use Rattle.spec_states.specs.State.{opening};
+ghost use Rattle.spec_plans.specs.Plan.{origin as about};
+ghost use Rattle.spec_states.specs.State.{own_at};
 ghost use Rattle.spec_states.specs.Shown.{shown};
-ghost use Rattle.spec_states.specs.Step.{too_long};
-ghost use Rattle.gl_graph.specs.Graph.{state_of};
+ghost use Rattle.spec_states.specs.Opening.{opening};
+ghost use Rattle.spec_states.specs.Wave.{command as made_by, wave};
+ghost use Rattle.spec_states.specs.Step.{too_long, unmoved};
+ghost use Rattle.gl_graph.specs.Nodes.{numbers};
+ghost use Rattle.gl_graph.specs.Graph.{state_of, IsGraph};
+ghost use Rattle.gl_graph.specs.Commands.{Suits};
 ghost use Rattle.gl_graph.specs.Opening.{AreKindsBuilt};
 ghost use Rattle.gl_graph.specs.Build.{IsReason};
+ghost use Rattle.gl_graph.specs.Waves.{AreTold, AreApart, IsRefused, IsUndo, CanRetreat, CanAllGoBack, HaveRoomOf, contents, contents_of, before, before_all, by_place};
+ghost use Rattle.gl_graph.specs.Backs.{CanGoBackAt, IsBackAt};
 
+use crate::command::about;
 use crate::fault::BuildFault;
+use crate::keeps::KeepsUndo;
 use crate::node::Node;
 use crate::seen::{element, shown_len};
+use crate::spread::spread_all;
 use crate::start::{open_all, turns_of};
+use gl_delta::Deltas;
+use gl_lines::Command;
 use gl_plan::Plan;
-use gl_value::Value;
+use gl_value::{Memory, Steps, Value};
 use std::alloc::Global;
 use std::marker::Model;
+use std::sync::ledger::Ledger;
 
 /// The lists of a plan in their dependency order. What a list shows isn't kept, but found through the lists before it.
 #[derive(Drop)]
@@ -43,18 +56,53 @@ impl Model for Graph {
     ghost invariant = { λ g. IsGraph g.limit g.nodes.items g.places.items };
 }
 
+/// What a command did: the delta of each list by number, none where it is the identity, and the way back.
+#[derive(Drop)]
+pub struct Wave {
+    pub deltas: Deltas,
+    pub undo: GraphUndo,
+}
+
+/// What takes a graph back to where it stood before a change: the undos of the lists that changed, each with its place
+/// in the dependency order, in the order in which they were made.
+#[derive(Drop)]
+pub struct GraphUndo {
+    pub(crate) made: Vec<(u32, KeepsUndo)>,
+}
+
+/// Why a command changes nothing.
+#[derive(Debug, Drop)]
+pub enum Refused {
+    /// The index lies outside a source of `len` elements.
+    OutOfRange { index: u64, len: u64 },
+    /// The list would show `len` elements, which are more than it may; the first such list in dependency order.
+    TooLong { list: u32, len: u128 },
+    /// There was no memory for it.
+    Memory,
+}
+
+impl From<Memory> for Refused {
+    ghost use Rattle.std.specs.Prelude.{◌≡◌};
+    ghost use Rattle.gl_graph.specs.declared.graph.Refused.TheVariants.{Memory};
+
+    ghost from_gives = { λ _ refused. refused ≡ Memory };
+
+    fn from(_memory: Memory) -> Refused {
+        Refused::Memory
+    }
+}
+
 impl Graph {
     /// The lists of a plan as they open, or the first in their dependency order that would be too long. It takes memory
     /// for what each list keeps.
     pub fn build(alloc: Global, plan: &Plan) -> Result<Graph, BuildFault>
-        requires built { AreKindsBuilt plan.now.lists }
-        requires few { plan.now.limit ≤ 2147483647 }
+        requires { AreKindsBuilt plan.now.lists }
         ensures state { IfOk result (λ g. state_of g ≡ opening plan.now) }
         ensures limit { IfOk result (λ g. g.limit ≡ plan.now.limit) }
         ensures within { OnOk result (too_long plan.now.limit (opening plan.now) ≡ None) }
         ensures fault { IfErr result (IsReason plan.now.limit (opening plan.now)) }
     {
-        let turns = turns_of(alloc, plan.lists(), plan.limit())?;
+        let turns = turns_of(alloc, plan)?;
         let nodes = open_all(alloc, &turns)?;
         Ok(Graph {
             alloc,
@@ -83,5 +131,89 @@ impl Graph {
             return None;
         }
         element(&self.nodes, &self.places, list, place)
+    }
+
+    /// Takes a command to the list where its wave begins, and then to each list behind that which depends on one that
+    /// changed: wholly, or not at all. Lists before it aren't visited, and one that is told nothing is passed over. It
+    /// takes memory for the changes.
+    pub fn wave<L: Ledger>(
+        &mut self,
+        command: &Command,
+        steps: &mut Steps<L>,
+    ) -> Result<Wave, Refused>
+        requires within { about command.now < length (state_of self.old) }
+        requires suits { Suits command.now (own_at (state_of self.old) (about command.now)) }
+        ensures moves { OnOk result (unmoved self.old.limit (state_of self.old) command.now ≡ None) }
+        ensures state { OnOk result (state_of self.new ≡ wave (state_of self.old) (made_by command.now)) }
+        ensures told { IfOk result (λ done. AreTold (state_of self.old) command.now done.deltas) }
+        ensures undo { IfOk result (λ done. IsUndo done.undo self.old self.new) }
+        ensures limit { self.new.limit ≡ self.old.limit }
+        ensures refused { IfErr result (IsRefused self.old.limit (state_of self.old) command.now) }
+        ensures err { OnErr result (contents self.new ≡ contents self.old) }
+        ensures room { HaveRoomOf self.old.nodes self.new.nodes }
+    {
+        let mut deltas = Deltas::make(self.alloc, self.places.len() as u32)?;
+        let mut made = Vec::new(self.alloc);
+        match spread_all(
+            self.alloc,
+            &mut self.nodes,
+            self.places.as_slice(),
+            self.limit,
+            command,
+            about(command),
+            &mut deltas,
+            &mut made,
+            steps,
+        ) {
+            Ok(()) => Ok(Wave {
+                deltas,
+                undo: GraphUndo { made },
+            }),
+            Err(why) => {
+                take_back(&mut self.nodes, made);
+                Err(why)
+            }
+        }
+    }
+
+    /// Goes back to where the lists stood before their last change, whose undo this is. It takes no memory, and time for
+    /// the lists that changed alone.
+    pub fn retreat(&mut self, undo: GraphUndo)
+        requires { CanRetreat undo self.old }
+        ensures back { contents self.new ≡ before undo self.old }
+        ensures room { HaveRoomOf self.old.nodes self.new.nodes }
+    {
+        take_back(&mut self.nodes, undo.made);
+    }
+
+    /// What holds of each graph, for callers that keep its undos.
+    pub fn law(&self)
+        ensures { IsGraph self.now.limit self.now.nodes self.now.places }
+    {
+        let _nodes = &self.nodes;
+    }
+}
+
+// Takes back the changes of lists whose undos these are, the last one first.
+fn take_back(nodes: &mut Vec<Node>, mut made: Vec<(u32, KeepsUndo)>)
+    requires can { CanAllGoBack (by_place (length nodes.old.items) made.items) nodes.old.items }
+    requires apart { AreApart (length nodes.old.items) made.items }
+    ensures back { contents_of nodes.new.items ≡ before_all (by_place (length nodes.old.items) made.items) nodes.old.items }
+    ensures numbers { numbers nodes.new.items ≡ numbers nodes.old.items }
+    ensures room { HaveRoomOf nodes.old.items nodes.new.items }
+{
+    'made: while let Some((place, undo)) = made.pop() {
+        go_back(nodes, place as usize, undo);
+    }
+}
+
+// Takes back the change of the list at a place.
+#[tactic(auto, using(crate::proofs::Taken::can_here, crate::proofs::Taken::back_here, crate::proofs::Taken::back_past))]
+fn go_back(nodes: &mut Vec<Node>, place: usize, undo: KeepsUndo)
+    requires { CanGoBackAt (Some undo) place nodes.old.items }
+    ensures { IsBackAt (Some undo) place nodes.old.items nodes.new.items }
+{
+    if place < nodes.len() {
+        nodes[place].keeps.retreat(undo);
     }
 }

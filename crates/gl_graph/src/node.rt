@@ -1,10 +1,10 @@
 //! One list of a graph.
 
-use crate::kernel::Kernel;
+use crate::keeps::Keeps;
 
 /// A list by its number.
 #[derive(Drop)]
 pub struct Node {
     pub list: u32,
-    pub kernel: Kernel,
+    pub keeps: Keeps,
 }

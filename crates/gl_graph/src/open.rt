@@ -1,16 +1,18 @@
 //! How a list opens.
 
-ghost use Rattle.std.specs.Prelude.{◌≡◌, ◌<◌, ◌≤◌, ℕ, List, length, IfOk, IfErr, OnOk};
+ghost use Rattle.std.specs.Prelude.{◌≡◌, ◌≤◌, ℕ, List, length, IfOk, IfErr, OnOk};
 ghost use Rattle.spec_value.specs.Tree.{Tree};
-ghost use Rattle.spec_states.specs.State.{opening_of, source as sourcing};
-ghost use Rattle.spec_states.specs.Shown.{view};
+ghost use Rattle.spec_states.specs.State.{source as sourcing};
+ghost use Rattle.spec_states.specs.Shown.{shown_of};
+ghost use Rattle.spec_states.specs.Opening.{seen_through};
 ghost use Rattle.gl_graph.specs.Nodes.{own_of, shown_by, StandsFor, AreSettled, IsPlaced};
 ghost use Rattle.gl_graph.specs.Graph.{IsLimited};
 ghost use Rattle.gl_graph.specs.Opening.{IsBuilt, IsOver};
 
-use crate::kernel::Kernel;
+use crate::derived::Derived;
+use crate::keeps::Keeps;
 use crate::node::Node;
-use crate::seen::Seen;
+use crate::seen::see;
 use gl_filter::Filter;
 use gl_function::Function;
 use gl_lines::ListKind;
@@ -20,7 +22,7 @@ use gl_value::{Steps, Values};
 use std::alloc::Global;
 use std::sync::ledger::Ledger;
 
-/// The kernel of a list that opens behind the nodes at the front. It takes memory for what the kernel keeps.
+/// What a list keeps that opens behind the nodes at the front. It takes memory for that.
 pub(crate) fn opened<L: Ledger>(
     alloc: Global,
     kind: &ListKind,
@@ -28,25 +30,25 @@ pub(crate) fn opened<L: Ledger>(
     places: &[u32],
     limit: u64,
     steps: &mut Steps<L>,
-) -> Result<Kernel, OpenFault>
+) -> Result<Keeps, OpenFault>
     requires settled { AreSettled front.now places.now }
     requires built { IsBuilt (IsPlaced front.now places.now) kind.now }
     requires few { limit ≤ 2147483647 }
-    ensures own { IfOk result (λ kernel. own_of kernel ≡ opening_of kind.now) }
-    ensures stands { IfOk result (λ kernel. StandsFor kernel (shown_by front.now places.now)) }
+    ensures own { IfOk result (λ keeps. own_of keeps ≡ seen_through kind.now) }
+    ensures stands { IfOk result (λ keeps. StandsFor keeps (shown_by front.now places.now)) }
     ensures limited { IfOk result (IsLimited limit) }
-    ensures within { OnOk result (length (view (opening_of kind.now) (shown_by front.now places.now)) ≤ limit) }
-    ensures over { IfErr result (IsOver limit (length (view (opening_of kind.now) (shown_by front.now places.now)))) }
+    ensures within { OnOk result (length (shown_of (seen_through kind.now) (shown_by front.now places.now)) ≤ limit) }
+    ensures over { IfErr result (IsOver limit (length (shown_of (seen_through kind.now) (shown_by front.now places.now)))) }
 {
-    let kernel = made(alloc, kind, front, places, limit, steps)?;
-    let len = kernel.len();
+    let keeps = made(alloc, kind, front, places, limit, steps)?;
+    let len = keeps.len();
     if len as u64 > limit {
         return Err(OpenFault::TooLong { len: len as u128 });
     }
-    Ok(kernel)
+    Ok(keeps)
 }
 
-// The kernel, however long its list is; of a source that is too long there is none.
+// The same, however long the list is; of a source that is too long there is nothing.
 fn made<L: Ledger>(
     alloc: Global,
     kind: &ListKind,
@@ -54,72 +56,52 @@ fn made<L: Ledger>(
     places: &[u32],
     limit: u64,
     steps: &mut Steps<L>,
-) -> Result<Kernel, OpenFault>
+) -> Result<Keeps, OpenFault>
     requires settled { AreSettled front.now places.now }
     requires built { IsBuilt (IsPlaced front.now places.now) kind.now }
     requires few { limit ≤ 2147483647 }
-    ensures own { IfOk result (λ kernel. own_of kernel ≡ opening_of kind.now) }
-    ensures stands { IfOk result (λ kernel. StandsFor kernel (shown_by front.now places.now)) }
+    ensures own { IfOk result (λ keeps. own_of keeps ≡ seen_through kind.now) }
+    ensures stands { IfOk result (λ keeps. StandsFor keeps (shown_by front.now places.now)) }
     ensures limited { IfOk result (IsLimited limit) }
-    ensures over { IfErr result (IsOver limit (length (view (opening_of kind.now) (shown_by front.now places.now)))) }
+    ensures over { IfErr result (IsOver limit (length (shown_of (seen_through kind.now) (shown_by front.now places.now)))) }
 {
     match kind {
         ListKind::Source { rows } => source_of(alloc, rows, limit),
         ListKind::Filter { input, matcher } => {
-            let shelf = seen(front, places, *input);
+            let shelf = see(front, places, *input);
             let filter = Filter::make(alloc, matcher.copy(alloc)?, &shelf, steps)?;
-            Ok(Kernel::Filter {
-                input: *input,
-                filter,
-            })
+            Ok(over(*input, Derived::Filter(filter)))
         }
         ListKind::Range { input, bounds } => {
-            let shelf = seen(front, places, *input);
+            let shelf = see(front, places, *input);
             let range = RangeKernel::make(alloc, *bounds, &shelf, steps)?;
-            Ok(Kernel::Range {
-                input: *input,
-                range,
-            })
+            Ok(over(*input, Derived::Range(range)))
         }
         ListKind::Function { input, func } => {
-            let shelf = seen(front, places, *input);
+            let shelf = see(front, places, *input);
             let function = Function::make(alloc, func.copy(alloc)?, &shelf, steps)?;
-            Ok(Kernel::Function {
-                input: *input,
-                function,
-            })
+            Ok(over(*input, Derived::Function(function)))
         }
         _ => unreachable!(),
     }
 }
 
-// The kernel of a source.
-fn source_of(alloc: Global, rows: &Values, limit: u64) -> Result<Kernel, OpenFault>
+fn over(input: u32, derived: Derived) -> Keeps
+    ensures { result ≡ Keeps.Over input derived }
+{
+    Keeps::Over { input, derived }
+}
+
+// What a source keeps.
+fn source_of(alloc: Global, rows: &Values, limit: u64) -> Result<Keeps, OpenFault>
     requires { limit ≤ 2147483647 }
-    ensures own { IfOk result (λ kernel. own_of kernel ≡ sourcing rows.now) }
-    ensures stands { (shows : ℕ → List Tree) → IfOk result (λ kernel. StandsFor kernel shows) }
+    ensures own { IfOk result (λ keeps. own_of keeps ≡ sourcing rows.now) }
+    ensures stands { (shows : ℕ → List Tree) → IfOk result (λ keeps. StandsFor keeps shows) }
     ensures limited { IfOk result (IsLimited limit) }
     ensures over { IfErr result (IsOver limit (length rows.now)) }
 {
     match SourceList::make(alloc, rows, limit) {
-        Ok(source) => Ok(Kernel::Source(source)),
+        Ok(source) => Ok(Keeps::Source(source)),
         Err(fault) => Err(fault),
-    }
-}
-
-// A list seen through the nodes at the front.
-#[tactic(auto, using(crate::proofs::Fronts::placed_few))]
-pub(crate) fn seen<'a>(front: &'a [Node], places: &'a [u32], list: u32) -> Seen<'a>
-    requires settled { AreSettled front.now places.now }
-    requires placed { IsPlaced front.now places.now list }
-    ensures front { result.front ≡ front.now }
-    ensures places { result.places ≡ places.now }
-    ensures list { result.list ≡ list }
-    ensures few { length (shown_by front.now places.now list) ≤ 2147483647 }
-{
-    Seen {
-        front,
-        places,
-        list,
     }
 }

@@ -1,6 +1,6 @@
 //! A list seen through the lists before it.
 
-ghost use Rattle.std.specs.Prelude.{◌≡◌, length, slice_get, slice_index, Some};
+ghost use Rattle.std.specs.Prelude.{◌≡◌, ◌≤◌, length, slice_get, slice_index, Some};
 ghost use Rattle.std.specs.Option.{option_copied};
 ghost use Rattle.gl_graph.specs.declared.node.Node.{Node};
 ghost use Rattle.gl_graph.specs.Nodes.{shown_by, AreSettled, IsPlaced};
@@ -48,6 +48,21 @@ impl<'a> Shelf for Seen<'a> {
     }
 }
 
+/// A list seen through the nodes at the front.
+#[tactic(auto, using(crate::proofs::Fronts::placed_few))]
+pub(crate) fn see<'a>(front: &'a [Node], places: &'a [u32], list: u32) -> Seen<'a>
+    requires settled { AreSettled front.now places.now }
+    requires placed { IsPlaced front.now places.now list }
+    ensures seen { result ≡ record { front = front.now; places = places.now; list = list } }
+    ensures few { length (shown_by front.now places.now list) ≤ 2147483647 }
+{
+    Seen {
+        front,
+        places,
+        list,
+    }
+}
+
 // The node of a list.
 fn node_of<'a>(front: &'a [Node], places: &[u32], list: u32) -> &'a Node
     requires { IsPlaced front.now places.now list }
@@ -63,7 +78,7 @@ pub(crate) fn shown_len(front: &[Node], places: &[u32], list: u32) -> usize
     requires placed { IsPlaced front.now places.now list }
     ensures { result ≡ length (shown_by front.now places.now list) }
 {
-    node_of(front, places, list).kernel.len()
+    node_of(front, places, list).keeps.len()
 }
 
 /// The element that a list shows at a place, or `None` exactly where the place isn't below the length.
@@ -77,12 +92,12 @@ pub(crate) fn element<'a>(
     requires placed { IsPlaced front.now places.now list }
     ensures { option_copied result ≡ slice_get (shown_by front.now places.now list) place }
 {
-    let kernel = &node_of(front, places, list).kernel;
-    match kernel.find(place) {
+    let keeps = &node_of(front, places, list).keeps;
+    match keeps.find(place) {
         None => None,
         Some(Find::Own(value)) => Some(value),
         Some(Find::Child(_, _)) => None,
-        Some(Find::Input(at)) => match kernel.input() {
+        Some(Find::Input(at)) => match keeps.input() {
             None => None,
             Some(input) => element(front, places, input, at),
         },

@@ -1,44 +1,49 @@
 //! How a command spreads through the nodes of a graph.
 
-ghost use Rattle.std.specs.Prelude.{◌≡◌, ◌≤◌, ◌<◌, ℕ, suc, List, length, replicate, slice_get, slice_set, Some, None};
+ghost use Rattle.std.specs.Prelude.{◌≡◌, ◌≤◌, ◌<◌, ◌++◌, ◌∷◌, [], ℕ, suc, List, length, slice_get, slice_index, slice_set, Some};
 ghost use Rattle.std.specs.Prelude.{IfOk, IfErr, OnOk, OnErr};
+ghost use Rattle.std.specs.Vec.{vec_capacity};
 ghost use Rattle.spec_value.specs.Tree.{Tree};
-ghost use Rattle.spec_states.specs.Shown.{view};
+ghost use Rattle.spec_states.specs.Shown.{shown_of};
 ghost use Rattle.gl_graph.specs.declared.node.Node.{Node};
 ghost use Rattle.gl_graph.specs.Nodes.{own_of, state_of, StandsFor};
 ghost use Rattle.gl_graph.specs.Waves.{IsRefused};
-ghost use Rattle.gl_graph.specs.Spread.{CanTurnAt, IsTriedAt, IsPut, IsOver, IsSpread, IsSpreading, LeadBack};
+ghost use Rattle.gl_graph.specs.Spread.{CanTurnAt, IsTriedAt, IsPut, IsOver, IsSpread, IsSpreading, HaveBack};
 
+use crate::graph::Refused;
+use crate::keeps::KeepsUndo;
 use crate::node::Node;
-use crate::undo::KernelUndo;
-use crate::wave::Refused;
 use gl_delta::{Delta, Deltas};
 use gl_lines::Command;
 use gl_value::Steps;
-use std::alloc::{AllocError, Global};
+use std::alloc::Global;
 use std::sync::ledger::Ledger;
 
-/// Takes a command from place to place: to the list that it is about, and then to each list behind it that follows one
-/// of which something is told. After an `Err` the undos lead back.
+/// Takes a command from place to place: to the list where its wave begins, and then to each list behind that of whose
+/// inputs something is told. After an `Err` the undos lead back.
 pub(crate) fn spread_all<L: Ledger>(
     alloc: Global,
     nodes: &mut Vec<Node>,
     places: &[u32],
     limit: u64,
     command: &Command,
+    start: u32,
     deltas: &mut Deltas,
-    undos: &mut Vec<Option<KernelUndo>>,
+    made: &mut Vec<(u32, KeepsUndo)>,
     steps: &mut Steps<L>,
 ) -> Result<(), Refused>
-    requires { IsSpread limit nodes.old.items places.now command.now 0 nodes.old.items deltas.old undos.old.items }
-    ensures spread { OnOk result (IsSpread limit nodes.old.items places.now command.now (length nodes.old.items)
-        nodes.new.items deltas.new undos.new.items) }
+    requires within { start < length places.now }
+    requires low { slice_index places.now start ≤ length nodes.old.items }
+    requires begins { IsSpread limit nodes.old.items places.now command.now (Some start)
+        (slice_index places.now start) nodes.old.items deltas.old made.old.items }
+    ensures spread { OnOk result (IsSpread limit nodes.old.items places.now command.now (Some start) (length nodes.old.items)
+        nodes.new.items deltas.new made.new.items) }
     ensures refused { IfErr result (IsRefused limit (state_of nodes.old.items places.now) command.now) }
-    ensures back { OnErr result (LeadBack nodes.old.items nodes.new.items undos.new.items) }
+    ensures back { OnErr result (HaveBack nodes.old.items nodes.new.items made.new.items) }
 {
-    'places: for place in 0..nodes.len() {
+    'places: for place in places[start as usize] as usize..nodes.len() {
         spread_at(
-            alloc, nodes, places, limit, command, place, deltas, undos, steps,
+            alloc, nodes, places, limit, command, start, place, deltas, made, steps,
         )?;
     }
     Ok(())
@@ -51,28 +56,32 @@ fn spread_at<L: Ledger>(
     places: &[u32],
     limit: u64,
     command: &Command,
+    start: u32,
     place: usize,
     deltas: &mut Deltas,
-    undos: &mut Vec<Option<KernelUndo>>,
+    made: &mut Vec<(u32, KeepsUndo)>,
     steps: &mut Steps<L>,
 ) -> Result<(), Refused>
     requires within { place < length nodes.old.items }
-    requires spreading { IsSpreading limit places.now command.now place nodes.old.items deltas.old undos.old.items }
+    requires spreading { IsSpreading limit places.now command.now (Some start) place nodes.old.items deltas.old made.old.items }
     ensures spread { (old : List Node)
-        → IsSpread limit old places.now command.now place nodes.old.items deltas.old undos.old.items
-        → OnOk result (IsSpread limit old places.now command.now (suc place)
-        nodes.new.items deltas.new undos.new.items) }
+        → IsSpread limit old places.now command.now (Some start) place nodes.old.items deltas.old made.old.items
+        → OnOk result (IsSpread limit old places.now command.now (Some start) (suc place)
+        nodes.new.items deltas.new made.new.items) }
     ensures refused { (old : List Node)
-        → IsSpread limit old places.now command.now place nodes.old.items deltas.old undos.old.items
+        → IsSpread limit old places.now command.now (Some start) place nodes.old.items deltas.old made.old.items
         → IfErr result (IsRefused limit (state_of old places.now) command.now) }
     ensures back { (old : List Node)
-        → IsSpread limit old places.now command.now place nodes.old.items deltas.old undos.old.items
-        → OnErr result (LeadBack old nodes.new.items undos.new.items) }
+        → IsSpread limit old places.now command.now (Some start) place nodes.old.items deltas.old made.old.items
+        → OnErr result (HaveBack old nodes.new.items made.new.items) }
 {
-    match turn_at(alloc, nodes, places, command, place, deltas, steps) {
+    if made.reserve(1).is_err() {
+        return Err(Refused::Memory);
+    }
+    match turn_at(alloc, nodes, places, command, start, place, deltas, steps) {
         Err(why) => Err(why),
         Ok(None) => Ok(()),
-        Ok(Some(done)) => further(nodes, place, limit, done, deltas, undos),
+        Ok(Some(done)) => further(nodes, place, limit, done, deltas, made),
     }
 }
 
@@ -81,25 +90,26 @@ fn further(
     nodes: &Vec<Node>,
     place: usize,
     limit: u64,
-    done: (Delta, KernelUndo),
+    done: (Delta, KeepsUndo),
     deltas: &mut Deltas,
-    undos: &mut Vec<Option<KernelUndo>>,
+    made: &mut Vec<(u32, KeepsUndo)>,
 ) -> Result<(), Refused>
     requires within { place < length nodes.now.items }
-    requires kept { place < length undos.old.items }
+    requires few { place < 4294967296 }
+    requires room { length made.old.items < vec_capacity made.old }
     requires listed { (node : Node) → slice_get nodes.now.items place ≡ Some node → node.list < length deltas.old }
-    ensures kept { undos.new.items ≡ slice_set undos.old.items place (Some done.1) }
+    ensures kept { made.new.items ≡ made.old.items ++ (place, done.1) ∷ [] }
     ensures put { (node : Node) → slice_get nodes.now.items place ≡ Some node
         → IsPut node.list done.0 deltas.old deltas.new }
     ensures short { (node : Node) (shows : ℕ → List Tree) → slice_get nodes.now.items place ≡ Some node
-        → StandsFor node.kernel shows
-        → OnOk result (length (view (own_of node.kernel) shows) ≤ limit) }
+        → StandsFor node.keeps shows
+        → OnOk result (length (shown_of (own_of node.keeps) shows) ≤ limit) }
     ensures over { (node : Node) (shows : ℕ → List Tree) → slice_get nodes.now.items place ≡ Some node
-        → StandsFor node.kernel shows
-        → IfErr result (IsOver limit node.list (length (view (own_of node.kernel) shows))) }
+        → StandsFor node.keeps shows
+        → IfErr result (IsOver limit node.list (length (shown_of (own_of node.keeps) shows))) }
 {
     let (delta, undo) = done;
-    keep(undos, place, undo);
+    made.push_reserved((place as u32, undo));
     tell(deltas, nodes[place].list, delta);
     short(nodes, place, limit)
 }
@@ -110,25 +120,19 @@ fn turn_at<L: Ledger>(
     nodes: &mut Vec<Node>,
     places: &[u32],
     command: &Command,
+    start: u32,
     place: usize,
     deltas: &Deltas,
     steps: &mut Steps<L>,
-) -> Result<Option<(Delta, KernelUndo)>, Refused>
-    requires { CanTurnAt places.now command.now deltas.now place nodes.old.items }
-    ensures { IsTriedAt places.now command.now deltas.now place nodes.old.items nodes.new.items result }
+) -> Result<Option<(Delta, KeepsUndo)>, Refused>
+    requires { CanTurnAt (Some start) places.now command.now deltas.now place nodes.old.items }
+    ensures { IsTriedAt (Some start) places.now command.now deltas.now place nodes.old.items nodes.new.items result }
 {
     let (front, back) = nodes.split_at_mut(place);
     let node = &mut back[0];
-    node.kernel
-        .turn(alloc, node.list, front, places, command, deltas, steps)
-}
-
-// The way back of the kernel at a place.
-fn keep(undos: &mut Vec<Option<KernelUndo>>, place: usize, undo: KernelUndo)
-    requires { place < length undos.old.items }
-    ensures { undos.new.items ≡ slice_set undos.old.items place (Some undo) }
-{
-    undos[place] = Some(undo);
+    node.keeps.turn(
+        alloc, node.list, start, front, places, command, deltas, steps,
+    )
 }
 
 // Tells a delta of a list, unless it is the identity.
@@ -145,14 +149,14 @@ fn tell(deltas: &mut Deltas, list: u32, delta: Delta)
 fn short(nodes: &Vec<Node>, place: usize, limit: u64) -> Result<(), Refused>
     requires { place < length nodes.now.items }
     ensures short { (node : Node) (shows : ℕ → List Tree) → slice_get nodes.now.items place ≡ Some node
-        → StandsFor node.kernel shows
-        → OnOk result (length (view (own_of node.kernel) shows) ≤ limit) }
+        → StandsFor node.keeps shows
+        → OnOk result (length (shown_of (own_of node.keeps) shows) ≤ limit) }
     ensures over { (node : Node) (shows : ℕ → List Tree) → slice_get nodes.now.items place ≡ Some node
-        → StandsFor node.kernel shows
-        → IfErr result (IsOver limit node.list (length (view (own_of node.kernel) shows))) }
+        → StandsFor node.keeps shows
+        → IfErr result (IsOver limit node.list (length (shown_of (own_of node.keeps) shows))) }
 {
     let node = &nodes[place];
-    let len = node.kernel.len();
+    let len = node.keeps.len();
     if len as u64 > limit {
         return Err(Refused::TooLong {
             list: node.list,
@@ -160,15 +164,4 @@ fn short(nodes: &Vec<Node>, place: usize, limit: u64) -> Result<(), Refused>
         });
     }
     Ok(())
-}
-
-/// No way back yet, for so many places.
-pub(crate) fn no_undos(alloc: Global, n: usize) -> Result<Vec<Option<KernelUndo>>, AllocError>
-    ensures { IfOk result (λ undos. undos.items ≡ replicate n None) }
-{
-    let mut undos = Vec::with_capacity(alloc, n)?;
-    'places: for _ in 0..n {
-        undos.push(None)?;
-    }
-    Ok(undos)
 }

@@ -1,5 +1,7 @@
-ghost use Rattle.std.specs.Prelude.{◌≡◌, ◌≤◌, IsTrue, IfOk, OnOk};
-ghost use Rattle.spec_states.specs.State.{opening};
+ghost use Rattle.std.specs.Prelude.{◌≡◌, ◌≤◌, All, IsTrue, IfOk, OnOk};
+ghost use Rattle.spec_syntax.specs.Proper.{IsBounds, IsFunc};
+ghost use Rattle.spec_lines.specs.Within.{IsNamed, IsWithin};
+ghost use Rattle.spec_states.specs.Opening.{opening};
 ghost use Rattle.gl_graph.specs.Graph.{state_of};
 ghost use Rattle.gl_graph.specs.Opening.{IsKindBuilt, AreKindsBuilt};
 
@@ -17,7 +19,9 @@ use gl_value::{Items, Text, Value};
 use std::alloc::Global;
 use std::process::Abort;
 
-fn named(rt: &(impl Abort + AllocGlobal), name: &[u8]) -> Named {
+fn named(rt: &(impl Abort + AllocGlobal), name: &[u8]) -> Named
+    ensures { IsNamed result }
+{
     match Text::from_utf8(rt.alloc(), name) {
         Ok(text) => match Name::new(text) {
             Ok(name) => Named { name, column: 1 },
@@ -27,7 +31,11 @@ fn named(rt: &(impl Abort + AllocGlobal), name: &[u8]) -> Named {
     }
 }
 
-fn add(rt: &(impl Abort + AllocGlobal), lines: &mut Lines, what: Line) {
+fn add(rt: &(impl Abort + AllocGlobal), lines: &mut Lines, what: Line)
+    requires line { IsWithin what }
+    requires others { All (λ l. IsWithin l.what) lines.old }
+    ensures { All (λ l. IsWithin l.what) lines.new }
+{
     let line = lines.len() as u64;
     match lines.push(NumberedLine { line, what }) {
         Ok(()) => {}
@@ -36,7 +44,10 @@ fn add(rt: &(impl Abort + AllocGlobal), lines: &mut Lines, what: Line) {
 }
 
 // A source of numbers.
-fn source(rt: &(impl Abort + AllocGlobal), lines: &mut Lines, name: &[u8], rows: &[i64]) {
+fn source(rt: &(impl Abort + AllocGlobal), lines: &mut Lines, name: &[u8], rows: &[i64])
+    requires { All (λ l. IsWithin l.what) lines.old }
+    ensures { All (λ l. IsWithin l.what) lines.new }
+{
     add(
         rt,
         lines,
@@ -62,7 +73,11 @@ fn range(
     name: &[u8],
     input: &[u8],
     bounds: Bounds,
-) {
+)
+    requires bounds { IsBounds bounds }
+    requires others { All (λ l. IsWithin l.what) lines.old }
+    ensures { All (λ l. IsWithin l.what) lines.new }
+{
     add(
         rt,
         lines,
@@ -75,7 +90,9 @@ fn range(
 }
 
 // The function that adds so much.
-fn plus(rt: &(impl Abort + AllocGlobal), n: i64) -> Func {
+fn plus(rt: &(impl Abort + AllocGlobal), n: i64) -> Func
+    ensures { IsFunc 8 result }
+{
     let alloc = rt.alloc();
     match (
         Box::new(alloc, Func::at(Path::new(alloc))),
@@ -87,7 +104,10 @@ fn plus(rt: &(impl Abort + AllocGlobal), n: i64) -> Func {
 }
 
 // The numbers above one.
-fn above_one(rt: &(impl Abort + AllocGlobal), lines: &mut Lines, name: &[u8], input: &[u8]) {
+fn above_one(rt: &(impl Abort + AllocGlobal), lines: &mut Lines, name: &[u8], input: &[u8])
+    requires { All (λ l. IsWithin l.what) lines.old }
+    ensures { All (λ l. IsWithin l.what) lines.new }
+{
     add(
         rt,
         lines,
@@ -100,7 +120,10 @@ fn above_one(rt: &(impl Abort + AllocGlobal), lines: &mut Lines, name: &[u8], in
 }
 
 // Ten more than each number.
-fn ten_more(rt: &(impl Abort + AllocGlobal), lines: &mut Lines, name: &[u8], input: &[u8]) {
+fn ten_more(rt: &(impl Abort + AllocGlobal), lines: &mut Lines, name: &[u8], input: &[u8])
+    requires { All (λ l. IsWithin l.what) lines.old }
+    ensures { All (λ l. IsWithin l.what) lines.new }
+{
     add(
         rt,
         lines,
@@ -114,7 +137,9 @@ fn ten_more(rt: &(impl Abort + AllocGlobal), lines: &mut Lines, name: &[u8], inp
 
 // Those above one of the last two of 1, 2 and 3, each declared before what it depends on; behind them ten more than
 // each of these, and the first of them.
-fn five(rt: &(impl Abort + AllocGlobal)) -> Lines {
+fn five(rt: &(impl Abort + AllocGlobal)) -> Lines
+    ensures { All (λ l. IsWithin l.what) result }
+{
     let mut lines = Items::new(rt.alloc());
     above_one(rt, &mut lines, b"large", b"last");
     range(rt, &mut lines, b"last", b"all", Bounds::Tail(2, 0));
@@ -147,7 +172,9 @@ fn are_built(lists: &[ListDecl]) -> bool
     true
 }
 
-fn planned(rt: &(impl Abort + AllocGlobal), lines: Lines) -> Plan {
+fn planned(rt: &(impl Abort + AllocGlobal), lines: Lines) -> Plan
+    requires { All (λ l. IsWithin l.what) lines }
+{
     match Plan::from_lines(rt.alloc(), lines) {
         Ok(plan) => plan,
         Err(_) => panic!(rt; "no plan"),
@@ -157,7 +184,7 @@ fn planned(rt: &(impl Abort + AllocGlobal), lines: Lines) -> Plan {
 fn built(rt: &(impl Abort + AllocGlobal), plan: &Plan) -> Result<Graph, BuildFault>
     ensures { IfOk result (λ graph. state_of graph ≡ opening plan.now) }
 {
-    assert!(rt; are_built(plan.lists()) && plan.limit() <= 2_147_483_647);
+    assert!(rt; are_built(plan.lists()));
     Graph::build(rt.alloc(), plan)
 }
 

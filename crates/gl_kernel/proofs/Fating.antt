@@ -4,9 +4,12 @@ use Rattle.std.proofs.Common.{ap, sym, ◌∙◌, arith, append_assoc, subst}
 use Rattle.std.proofs.lemmas.List.{length-append}
 use Rattle.spec_value.specs.Tree.{Tree}
 use Rattle.spec_lists.specs.Piece.{Piece, kept, updated, deleted, inserted, old_len, new_len}
-use Rattle.spec_lists.specs.Leads.{LeadsFrom, applied}
+use Rattle.spec_lists.specs.Leads.{LeadsFrom, applied, IsDelta}
 use Rattle.spec_lists.proofs.Leading.{length_from}
-use Rattle.gl_kernel.specs.Edits.{AreWithin, played, insertions}
+use Rattle.gl_kernel.proofs.Making.{length-made}
+use Rattle.gl_kernel.proofs.Spreading.{spoken-fate}
+use Rattle.gl_kernel.specs.Edits.{AreWithin, played, insertions, Makes}
+use Rattle.gl_kernel.specs.declared.log_step.LogStep.{LogStep}
 use Rattle.gl_kernel.specs.Fates.{Fate, stays, becomes, goes, comes, outcome, spoken, edits_of, fate}
 
 module _ {T : Type 0} where
@@ -87,19 +90,8 @@ module _ {T : Type 0} where
   outcome-fate f (deleted v ∷ ps) (x ∷ xs) h = outcome-fate f ps xs h.1
   outcome-fate f (inserted w ∷ ps) xs h = ap (λ ys. f w ∷ ys) (outcome-fate f ps xs h)
 
-  spoken-fate : (f : Tree → T) (ps : List Piece) → spoken (map (fate f) ps) ≡ old_len ps
-  spoken-fate f [] = refl
-  spoken-fate f (kept ∷ ps) = ap suc (spoken-fate f ps)
-  spoken-fate f (updated v w ∷ ps) = ap suc (spoken-fate f ps)
-  spoken-fate f (deleted v ∷ ps) = ap suc (spoken-fate f ps)
-  spoken-fate f (inserted w ∷ ps) = spoken-fate f ps
-
-  length-mapped : (f : Tree → T) (xs : List Tree) → length (map f xs) ≡ length xs
-  length-mapped f [] = refl
-  length-mapped f (x ∷ xs) = ap suc (length-mapped f xs)
-
   spoken-of : (f : Tree → T) (ps : List Piece) (xs : List Tree) → LeadsFrom ps xs → spoken (map (fate f) ps) ≡ length (map f xs)
-  spoken-of f ps xs h = spoken-fate f ps ∙ (sym (length_from ps xs h) ∙ sym (length-mapped f xs))
+  spoken-of f ps xs h = spoken-fate f ps ∙ (sym (length_from ps xs h) ∙ sym (length-made f xs))
 
   -- the edits of a delta lead from what a function gives of the old elements to what it gives of the new ones
   pub delta_played : (f : Tree → T) (ps : List Piece) (xs : List Tree) → LeadsFrom ps xs → played (edits_of 0 (map (fate f) ps)) (map f xs) ≡ map f (applied ps xs)
@@ -114,3 +106,18 @@ module _ {T : Type 0} where
   delta_insertions f (updated v w ∷ ps) i = omega (arith, delta_insertions f ps (suc i))
   delta_insertions f (deleted v ∷ ps) i = omega (arith, delta_insertions f ps (suc i))
   delta_insertions f (inserted w ∷ ps) i = omega (arith, delta_insertions f ps i)
+
+  -- edits that bring about what becomes of each item of a list make what comes out of it
+  pub fates_make : (fs : List (Fate T)) (log : List (LogStep T)) (xs ys : List T) → log ≡ edits_of 0 fs → spoken fs ≡ length xs → length xs + insertions (edits_of 0 fs) ≤ 4294967294
+      → outcome fs xs ≡ ys → Makes log xs ys
+  fates_make fs log xs ys e s few o =
+      let ByLog : List (LogStep T) → Type 0 = λ es. Makes es xs ys in
+      subst ByLog (sym e) (record { within = fates_within fs [] xs 0 refl s; few = few; made = fates_played fs [] xs 0 refl s ∙ o })
+
+  -- so do those of a delta, where the items are what a function gives of the elements
+  pub delta_makes : (f : Tree → T) (ps : List Piece) (xs ys : List Tree) (log : List (LogStep T)) (items : List T) → IsDelta ps xs ys → old_len ps ≤ 2147483647 → new_len ps ≤ 2147483647
+      → items ≡ map f xs → log ≡ edits_of 0 (map (fate f) ps) → Makes log items (map f ys)
+  delta_makes f ps xs ys log items h olds news e g =
+      let few : length (map f xs) + insertions (edits_of 0 (map (fate f) ps)) ≤ 4294967294 = omega (arith, length-made f xs, length_from ps xs h.starts, delta_insertions f ps 0, olds, news) in
+      let ByItems : List T → Type 0 = λ is. Makes log is (map f ys) in
+      subst ByItems (sym e) (fates_make (map (fate f) ps) log (map f xs) (map f ys) g (spoken-of f ps xs h.starts) few (outcome-fate f ps xs h.starts ∙ ap (map f) (sym h.ends)))

@@ -4,3 +4,5 @@ pub mod Fating
 pub mod Spreading
 pub mod Making
 pub mod Leading
+pub mod Pairing
+pub mod Reading

@@ -1,7 +1,8 @@
 -- The values of a list under handles, by their places.
-use Rattle.std.specs.Prelude.{◌≡◌, ℕ, zero, suc, List, [], ◌∷◌, length, insert, remove, slice_get, Some, None, Option, Contains, refl}
-use Rattle.std.proofs.Common.{ap, sym, ◌∙◌}
-use Rattle.gl_counted.specs.Counted.{handles, AreDistinct}
+use Rattle.std.specs.Prelude.{◌≡◌, ℕ, zero, suc, List, [], ◌∷◌, length, insert, remove, slice_get, slice_set, cond, Some, None, Option, Contains, refl}
+use Rattle.std.proofs.Common.{ap, sym, ◌∙◌, arith}
+use Rattle.std.proofs.lemmas.Bool.{ne_eqb, eq-eqb}
+use Rattle.gl_counted.specs.Counted.{handles, with_item, AreDistinct}
 use Rattle.gl_counted.proofs.Holding.{get_from_Contains}
 use Rattle.gl_kernel.specs.Values.{unnamed}
 
@@ -60,3 +61,26 @@ module _ {T : Type 0} where
   no_value [] (suc at) e = refl
   no_value (d ∷ es) zero e = cc
   no_value (d ∷ es) (suc at) e = no_value es at e
+
+  -- another item under a handle that stands at no place changes nothing
+  with-none : (es : List (ℕ × T)) (h : ℕ) (x : T) → ((k : ℕ) → slice_get (handles es) k ≡ Some h → ⊥) → unnamed (with_item es h x) ≡ unnamed es
+  with-none [] h x none = refl
+  with-none (e ∷ es) h x none =
+      let differs = ne_eqb e.0 h (λ q. none 0 (ap Some q)) in
+      ap (λ b. unnamed (cond b (h, x) e ∷ with_item es h x)) differs ∙ ap (λ ys. e.1 ∷ ys) (with-none es h x (λ k. none (suc k)))
+
+  -- and under one that stands at a place, it changes the value there
+  pub unnamed-with : (es : List (ℕ × T)) (at h : ℕ) (x : T) → AreDistinct es → slice_get (handles es) at ≡ Some h → unnamed (with_item es h x) ≡ slice_set (unnamed es) at x
+  unnamed-with [] zero h x distinct found = cc
+  unnamed-with [] (suc at) h x distinct found = cc
+  unnamed-with (e ∷ es) zero h x distinct found =
+      let same = eq-eqb e.0 h (here e.0 h found) in
+      ap (λ b. unnamed (cond b (h, x) e ∷ with_item es h x)) same
+      ∙ ap (λ ys. x ∷ ys) (with-none es h x (λ k later. absurd (omega (arith, distinct h 0 (suc k) found later))))
+    where
+      here : (a b : ℕ) → Some a ≡ Some b → a ≡ b
+      here a b g = cc
+  unnamed-with (e ∷ es) (suc at) h x distinct found =
+      let differs = ne_eqb e.0 h (λ q. absurd (omega (arith, distinct h 0 (suc at) (ap Some q) found))) in
+      ap (λ b. unnamed (cond b (h, x) e ∷ with_item es h x)) differs
+      ∙ ap (λ ys. e.1 ∷ ys) (unnamed-with es at h x (λ g j k p q. omega (arith, distinct g (suc j) (suc k) p q)) found)

@@ -3,8 +3,8 @@ use Rattle.std.specs.Prelude.{◌≡◌, ℕ, zero, suc, ◌+◌, ◌*◌, ◌<�
 use Rattle.std.proofs.Common.{ap, sym, ◌∙◌, arith, subst}
 use Rattle.std.proofs.lemmas.List.Edits.{length-insert, length-remove}
 use Rattle.std.proofs.lemmas.List.{length-set}
-use Rattle.gl_kernel.specs.declared.edit.Edit.{Edit}
-use Rattle.gl_kernel.specs.declared.edit.Edit.TheVariants.{Insert, Remove, Set}
+use Rattle.gl_kernel.specs.declared.log_step.LogStep.{LogStep}
+use Rattle.gl_kernel.specs.declared.log_step.LogStep.TheVariants.{Insert, Remove, Set}
 use Rattle.gl_kernel.specs.Edits.{edited, IsWithin, played, insertions, AreWithin, Fits, CanMake, CanPlay}
 
 module _ {T : Type 0} where
@@ -38,20 +38,20 @@ module _ {T : Type 0} where
       subst P (sym e) (record { fits = omega (arith, f.fits, h); few = f.few })
 
   -- the edit that takes one back can be made where the list fitted before
-  pub can_go_back : (need : List T → ℕ) (room more : ℕ) (xs ys : List T) (e : Edit T) → edited e ys ≡ xs → IsWithin e ys → room ≤ more → Fits need room xs → CanMake need more e ys
+  pub can_go_back : (need : List T → ℕ) (room more : ℕ) (xs ys : List T) (e : LogStep T) → edited e ys ≡ xs → IsWithin e ys → room ≤ more → Fits need room xs → CanMake need more e ys
   can_go_back need room more xs ys e back within h f = record { within = within; fits = fits_more need room more xs (edited e ys) back h f }
 
-  pub played-append : (es : List (Edit T)) (e : Edit T) (xs : List T) → played (es ++ e ∷ []) xs ≡ played es (edited e xs)
+  pub played-append : (es : List (LogStep T)) (e : LogStep T) (xs : List T) → played (es ++ e ∷ []) xs ≡ played es (edited e xs)
   played-append [] e xs = refl
   played-append (d ∷ es) e xs = ap (edited d) (played-append es e xs)
 
   -- the list that a log is played on fits
-  pub fits_first : (need : List T → ℕ) (room : ℕ) (es : List (Edit T)) (xs : List T) → CanPlay need room es xs → Fits need room xs
+  pub fits_first : (need : List T → ℕ) (room : ℕ) (es : List (LogStep T)) (xs : List T) → CanPlay need room es xs → Fits need room xs
   fits_first need room [] xs h = h
   fits_first need room (e ∷ es) xs h = fits_first need room es xs h.0
 
   -- the last edit of a log can be made, and then the others
-  pub can_make_last : (need : List T → ℕ) (room : ℕ) (es : List (Edit T)) (e : Edit T) (xs : List T) → CanPlay need room (es ++ e ∷ []) xs → CanMake need room e xs × CanPlay need room es (edited e xs)
+  pub can_make_last : (need : List T → ℕ) (room : ℕ) (es : List (LogStep T)) (e : LogStep T) (xs : List T) → CanPlay need room (es ++ e ∷ []) xs → CanMake need room e xs × CanPlay need room es (edited e xs)
   can_make_last need room [] e xs h = (h.1, h.1.fits)
   can_make_last need room (d ∷ es) e xs h =
       let rest = can_make_last need room es e xs h.0 in
@@ -59,51 +59,46 @@ module _ {T : Type 0} where
       (rest.0, (rest.1, subst P (played-append es e xs) h.1))
 
   -- and the other way round
-  pub can_play_last : (need : List T → ℕ) (room : ℕ) (es : List (Edit T)) (e : Edit T) (xs : List T) → Fits need room xs → CanMake need room e xs → CanPlay need room es (edited e xs) → CanPlay need room (es ++ e ∷ []) xs
+  pub can_play_last : (need : List T → ℕ) (room : ℕ) (es : List (LogStep T)) (e : LogStep T) (xs : List T) → Fits need room xs → CanMake need room e xs → CanPlay need room es (edited e xs) → CanPlay need room (es ++ e ∷ []) xs
   can_play_last need room [] e xs f m h = (f, m)
   can_play_last need room (d ∷ es) e xs f m h =
       let P : List T → Type 0 = λ zs. CanMake need room d zs in
       (can_play_last need room es e xs f m h.0, subst P (sym (played-append es e xs)) h.1)
 
   -- in more room too
-  pub can_play_more : (need : List T → ℕ) (room more : ℕ) (es : List (Edit T)) (xs : List T) → room ≤ more → CanPlay need room es xs → CanPlay need more es xs
+  pub can_play_more : (need : List T → ℕ) (room more : ℕ) (es : List (LogStep T)) (xs : List T) → room ≤ more → CanPlay need room es xs → CanPlay need more es xs
   can_play_more need room more [] xs h f = fits_more need room more xs xs refl h f
   can_play_more need room more (e ∷ es) xs h f =
       (can_play_more need room more es xs h f.0, record { within = f.1.within; fits = fits_more need room more _ _ refl h f.1.fits })
 
-  pub set-is : (xs : List T) (at : ℕ) (y : T) → at < length xs → insert (remove xs at) at y ≡ slice_set xs at y
-  set-is [] at y h = absurd (omega (arith, h))
-  set-is (x ∷ xs) zero y h = refl
-  set-is (x ∷ xs) (suc at) y h = ap (λ ys. x ∷ ys) (set-is xs at y (omega (arith, h)))
-
   -- how much room so many edits may take
-  abbrev grown : ℕ → List (Edit T) → ℕ
+  abbrev grown : ℕ → List (LogStep T) → ℕ
   grown growth [] = 0
   grown growth (e ∷ es) = growth + grown growth es
 
   abbrev Grows : (List T → ℕ) → ℕ → Type 0
-  Grows need growth = (e : Edit T) (xs : List T) → IsWithin e xs → need (edited e xs) ≤ need xs + growth
+  Grows need growth = (e : LogStep T) (xs : List T) → IsWithin e xs → need (edited e xs) ≤ need xs + growth
 
-  need_after : (need : List T → ℕ) (growth : ℕ) → Grows need growth → (es : List (Edit T)) (xs : List T) → AreWithin es xs → need (played es xs) ≤ need xs + grown growth es
+  need_after : (need : List T → ℕ) (growth : ℕ) → Grows need growth → (es : List (LogStep T)) (xs : List T) → AreWithin es xs → need (played es xs) ≤ need xs + grown growth es
   need_after need growth law [] xs h = omega arith
   need_after need growth law (e ∷ es) xs h = omega (arith, need_after need growth law es xs h.0, law e (played es xs) h.1)
 
-  length_edited : (e : Edit T) (es : List (Edit T)) (xs : List T) → IsWithin e xs → length (edited e xs) + insertions es ≤ length xs + insertions (e ∷ es)
+  length_edited : (e : LogStep T) (es : List (LogStep T)) (xs : List T) → IsWithin e xs → length (edited e xs) + insertions es ≤ length xs + insertions (e ∷ es)
   length_edited (Insert at x) es xs h = omega (arith, length-insert xs at x h)
   length_edited (Remove at) es xs h = omega (arith, length-remove xs at h)
   length_edited (Set at x) es xs h = omega (arith, length-set xs at x)
 
-  length_after : (es : List (Edit T)) (xs : List T) → AreWithin es xs → length (played es xs) ≤ length xs + insertions es
+  length_after : (es : List (LogStep T)) (xs : List T) → AreWithin es xs → length (played es xs) ≤ length xs + insertions es
   length_after [] xs h = omega arith
   length_after (e ∷ es) xs h = omega (arith, length_after es xs h.0, length_edited e es (played es xs) h.1)
 
-  few_first : (e : Edit T) (es : List (Edit T)) → insertions es ≤ insertions (e ∷ es)
+  few_first : (e : LogStep T) (es : List (LogStep T)) → insertions es ≤ insertions (e ∷ es)
   few_first (Insert at x) es = omega arith
   few_first (Remove at) es = omega arith
   few_first (Set at x) es = omega arith
 
   -- with room for so many edits, a log whose edits find their places can be played
-  with_room : (need : List T → ℕ) (growth room : ℕ) → Grows need growth → (es : List (Edit T)) (xs : List T) → AreWithin es xs → need xs + grown growth es ≤ room → length xs + insertions es ≤ 4294967294 → CanPlay need room es xs
+  with_room : (need : List T → ℕ) (growth room : ℕ) → Grows need growth → (es : List (LogStep T)) (xs : List T) → AreWithin es xs → need xs + grown growth es ≤ room → length xs + insertions es ≤ 4294967294 → CanPlay need room es xs
   with_room need growth room law [] xs h r f = record { fits = omega (arith, r); few = omega (arith, f) }
   with_room need growth room law (e ∷ es) xs h r f = (
     with_room need growth room law es xs h.0 (omega (arith, r)) (omega (arith, f, few_first e es)),
@@ -116,12 +111,12 @@ module _ {T : Type 0} where
     },
   )
 
-  grown-times : (growth : ℕ) (es : List (Edit T)) → grown growth es ≡ length es * growth
+  grown-times : (growth : ℕ) (es : List (LogStep T)) → grown growth es ≡ length es * growth
   grown-times growth [] = omega arith
   grown-times growth (e ∷ es) = ap (λ n. growth + n) (grown-times growth es) ∙ sym (suc-times (length es) growth)
     where
       suc-times : (n g : ℕ) → suc n * g ≡ g + n * g
       suc-times n g = grind arith
 
-  pub can_play_reserved : (need : List T → ℕ) (growth room : ℕ) → Grows need growth → (es : List (Edit T)) (xs : List T) → AreWithin es xs → need xs + length es * growth ≤ room → length xs + insertions es ≤ 4294967294 → CanPlay need room es xs
+  pub can_play_reserved : (need : List T → ℕ) (growth room : ℕ) → Grows need growth → (es : List (LogStep T)) (xs : List T) → AreWithin es xs → need xs + length es * growth ≤ room → length xs + insertions es ≤ 4294967294 → CanPlay need room es xs
   can_play_reserved need growth room law es xs h r f = with_room need growth room law es xs h (omega (arith, r, grown-times growth es)) f

@@ -1,14 +1,16 @@
 -- The pieces of a delta's cells are its own, and what is told of them piece by piece.
 use Rattle.std.specs.Prelude.{◌≡◌, ℕ, zero, suc, ◌+◌, ◌≤◌, List, [], ◌∷◌, ◌++◌, map, replicate, refl}
 use Rattle.std.proofs.Common.{ap, sym, ◌∙◌, arith, append_assoc}
+use Rattle.std.proofs.lemmas.List.{map-append}
 use Rattle.spec_value.specs.Tree.{Tree}
 use Rattle.spec_lists.specs.Piece.{Piece, kept, updated, deleted, inserted, old_len, new_len, normal, insert_first}
 use Rattle.spec_lists.specs.Cells.{Cell, keep, update, delete, insert, keep_first, cells_of}
 use Rattle.spec_lists.proofs.Normal.{old_len-normal, new_len-normal}
 use Rattle.spec_lists.proofs.Changing.{old_len-append, new_len-append}
-use Rattle.gl_kernel.specs.declared.edit.Edit.{Edit}
-use Rattle.gl_kernel.specs.declared.edit.Edit.TheVariants.{Insert, Remove, Set}
-use Rattle.gl_kernel.specs.Fates.{fate, edits_of}
+use Rattle.gl_kernel.specs.declared.log_step.LogStep.{LogStep}
+use Rattle.gl_kernel.specs.declared.log_step.LogStep.TheVariants.{Insert, Remove, Set}
+use Rattle.gl_kernel.specs.Fates.{Fate, stays, becomes, goes, comes, spoken, fate, edits_of}
+use Rattle.gl_kernel.specs.Plans.{CanTell}
 use Rattle.gl_kernel.specs.Spread.{spread}
 
 spread-keep_first : (cs : List Cell) → spread (keep_first cs) ≡ kept ∷ spread cs
@@ -54,38 +56,54 @@ pub told_news : (whole out told rest : List Piece) → normal (out ++ (told ++ r
 told_news whole out told rest e =
     omega (arith, new_len-append out (told ++ rest), new_len-append told rest, new_len-normal (out ++ (told ++ rest)), ap new_len e)
 
-module _ {T : Type 0} where
-  -- kept elements need no edit
-  pub edits-keeps : (f : Tree → T) (n i : ℕ) (ps : List Piece) → edits_of i (map (fate f) (replicate n kept ++ ps)) ≡ edits_of (i + n) (map (fate f) ps)
-  edits-keeps f zero i ps = let e : i ≡ i + 0 = omega arith in ap (λ k. edits_of k (map (fate f) ps)) e
-  edits-keeps f (suc n) i ps =
-      let e : suc i + n ≡ i + suc n = omega arith in
-      edits-keeps f n (suc i) ps ∙ ap (λ k. edits_of k (map (fate f) ps)) e
+-- so each part of what can be told in one can be told
+pub can_tell_whole : (whole out told rest : List Piece) → old_len whole ≤ 2147483647 → new_len whole ≤ 2147483647 → normal (out ++ (told ++ rest)) ≡ normal whole → CanTell told out
+can_tell_whole whole out told rest h k e = record {
+  olds = omega (arith, told_olds (normal whole) out told rest e, old_len-normal whole, h);
+  news = omega (arith, told_news (normal whole) out told rest e, new_len-normal whole, k);
+}
 
+pub can_tell_part : (out more told part rest : List Piece) → CanTell told out → normal (more ++ (part ++ rest)) ≡ normal (out ++ told) → CanTell part more
+can_tell_part out more told part rest can e =
+    can_tell_whole (out ++ told) more part rest (omega (arith, old_len-append out told, can.olds)) (omega (arith, new_len-append out told, can.news)) e
+
+module _ {T : Type 0} where
   -- the edits so far and those that are left are the whole: after one more too
-  pub logged_more : (whole log more : List (Edit T)) (e : Edit T) (rest : List (Edit T)) → log ++ (e ∷ rest) ≡ whole → more ≡ log ++ e ∷ [] → more ++ rest ≡ whole
+  pub logged_more : (whole log more : List (LogStep T)) (e : LogStep T) (rest : List (LogStep T)) → log ++ (e ∷ rest) ≡ whole → more ≡ log ++ e ∷ [] → more ++ rest ≡ whole
   logged_more whole log more e rest p q = ap (λ es. es ++ rest) q ∙ (append_assoc log (e ∷ []) rest ∙ p)
 
-  -- the edits of one part of the pieces, and then of the other
-  pub edits-append : (f : Tree → T) (ps qs : List Piece) (i : ℕ) → edits_of i (map (fate f) (ps ++ qs)) ≡ edits_of i (map (fate f) ps) ++ edits_of (i + old_len ps) (map (fate f) qs)
-  edits-append f [] qs i = let e : i ≡ i + 0 = omega arith in ap (λ k. edits_of k (map (fate f) qs)) e
-  edits-append f (kept ∷ ps) qs i =
-      let e : suc i + old_len ps ≡ i + suc (old_len ps) = omega arith in
-      edits-append f ps qs (suc i) ∙ ap (λ k. edits_of (suc i) (map (fate f) ps) ++ edits_of k (map (fate f) qs)) e
-  edits-append f (updated v w ∷ ps) qs i =
-      let e : suc i + old_len ps ≡ i + suc (old_len ps) = omega arith in
-      ap (λ es. Set i (f w) ∷ es) (edits-append f ps qs (suc i) ∙ ap (λ k. edits_of (suc i) (map (fate f) ps) ++ edits_of k (map (fate f) qs)) e)
-  edits-append f (deleted v ∷ ps) qs i =
-      let e : suc i + old_len ps ≡ i + suc (old_len ps) = omega arith in
-      ap (λ es. Remove i ∷ es) (edits-append f ps qs (suc i) ∙ ap (λ k. edits_of (suc i) (map (fate f) ps) ++ edits_of k (map (fate f) qs)) e)
-  edits-append f (inserted w ∷ ps) qs i = ap (λ es. Insert i (f w) ∷ es) (edits-append f ps qs i)
+  -- the edits for some items, and then for the others
+  edits-parts : (fs gs : List (Fate T)) (i : ℕ) → edits_of i (fs ++ gs) ≡ edits_of i fs ++ edits_of (i + spoken fs) gs
+  edits-parts [] gs i = let e : i ≡ i + 0 = omega arith in ap (λ k. edits_of k gs) e
+  edits-parts (stays ∷ fs) gs i =
+      let e : suc i + spoken fs ≡ i + suc (spoken fs) = omega arith in
+      edits-parts fs gs (suc i) ∙ ap (λ k. edits_of (suc i) fs ++ edits_of k gs) e
+  edits-parts (becomes y ∷ fs) gs i =
+      let e : suc i + spoken fs ≡ i + suc (spoken fs) = omega arith in
+      ap (λ es. Set i y ∷ es) (edits-parts fs gs (suc i) ∙ ap (λ k. edits_of (suc i) fs ++ edits_of k gs) e)
+  edits-parts (goes ∷ fs) gs i =
+      let e : suc i + spoken fs ≡ i + suc (spoken fs) = omega arith in
+      ap (λ es. Remove i ∷ es) (edits-parts fs gs (suc i) ∙ ap (λ k. edits_of (suc i) fs ++ edits_of k gs) e)
+  edits-parts (comes y ∷ fs) gs i = ap (λ es. Insert i y ∷ es) (edits-parts fs gs i)
 
   -- the edits so far and those that are left are the whole, after a step too
-  pub edits_more : (f : Tree → T) (whole log more : List (Edit T)) (qs rest : List Piece) (i j : ℕ) → log ++ edits_of i (map (fate f) (qs ++ rest)) ≡ whole → more ≡ log ++ edits_of i (map (fate f) qs) → j ≡ i + old_len qs → more ++ edits_of j (map (fate f) rest) ≡ whole
+  pub steps_more : (whole log more : List (LogStep T)) (fs gs : List (Fate T)) (i j : ℕ) → log ++ edits_of i (fs ++ gs) ≡ whole → more ≡ log ++ edits_of i fs → j ≡ i + spoken fs → more ++ edits_of j gs ≡ whole
+  steps_more whole log more fs gs i j p q e =
+      ap (λ es. es ++ edits_of j gs) q
+      ∙ (append_assoc log (edits_of i fs) (edits_of j gs)
+      ∙ (ap (λ k. log ++ (edits_of i fs ++ edits_of k gs)) e ∙ (ap (λ es. log ++ es) (sym (edits-parts fs gs i)) ∙ p)))
+
+  pub spoken-fate : (f : Tree → T) (ps : List Piece) → spoken (map (fate f) ps) ≡ old_len ps
+  spoken-fate f [] = refl
+  spoken-fate f (kept ∷ ps) = ap suc (spoken-fate f ps)
+  spoken-fate f (updated v w ∷ ps) = ap suc (spoken-fate f ps)
+  spoken-fate f (deleted v ∷ ps) = ap suc (spoken-fate f ps)
+  spoken-fate f (inserted w ∷ ps) = spoken-fate f ps
+
+  pub edits_more : (f : Tree → T) (whole log more : List (LogStep T)) (qs rest : List Piece) (i j : ℕ) → log ++ edits_of i (map (fate f) (qs ++ rest)) ≡ whole → more ≡ log ++ edits_of i (map (fate f) qs) → j ≡ i + old_len qs → more ++ edits_of j (map (fate f) rest) ≡ whole
   edits_more f whole log more qs rest i j p q e =
-      ap (λ es. es ++ edits_of j (map (fate f) rest)) q
-      ∙ (append_assoc log (edits_of i (map (fate f) qs)) (edits_of j (map (fate f) rest))
-      ∙ (ap (λ k. log ++ (edits_of i (map (fate f) qs) ++ edits_of k (map (fate f) rest))) e ∙ (ap (λ es. log ++ es) (sym (edits-append f qs rest i)) ∙ p)))
+      steps_more whole log more (map (fate f) qs) (map (fate f) rest) i j (ap (λ fs. log ++ edits_of i fs) (sym (map-append (fate f) qs rest)) ∙ p) q
+      (e ∙ ap (λ k. i + k) (sym (spoken-fate f qs)))
 
   pub no_edits : (f : Tree → T) (n i : ℕ) → edits_of i (map (fate f) (replicate n kept)) ≡ []
   no_edits f zero i = refl

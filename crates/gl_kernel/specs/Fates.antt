@@ -2,8 +2,8 @@
 use Rattle.std.specs.Prelude.{ℕ, suc, List, [], ◌∷◌}
 use Rattle.spec_value.specs.Tree.{Tree}
 use Rattle.spec_lists.specs.Piece.{Piece, kept, updated, deleted, inserted}
-use Rattle.gl_kernel.specs.declared.edit.Edit.{Edit}
-use Rattle.gl_kernel.specs.declared.edit.Edit.TheVariants.{Insert, Remove, Set}
+use Rattle.gl_kernel.specs.declared.log_step.LogStep.{LogStep}
+use Rattle.gl_kernel.specs.declared.log_step.LogStep.TheVariants.{Insert, Remove, Set}
 
 -- an item stays, becomes another one, or goes; or a new one comes
 pub data Fate (T : Type 0) : Type 0 where
@@ -33,7 +33,7 @@ module _ {T : Type 0} where
   spoken (comes y ∷ fs) = spoken fs
 
   -- the edits for the items from a place on; made the last one first, each finds the items before its place untouched
-  abbrev pub edits_of : ℕ → List (Fate T) → List (Edit T)
+  abbrev pub edits_of : ℕ → List (Fate T) → List (LogStep T)
   edits_of i [] = []
   edits_of i (stays ∷ fs) = edits_of (suc i) fs
   edits_of i (becomes y ∷ fs) = Set i y ∷ edits_of (suc i) fs

@@ -4,11 +4,11 @@ use Rattle.std.proofs.Common.{arith}
 use Rattle.std.proofs.lemmas.List.Edits.{length-insert, length-remove}
 use Rattle.std.proofs.lemmas.List.{length-set}
 use Rattle.gl_barcode.specs.Bars.{stretch_count, begins_alike, same}
-use Rattle.gl_kernel.specs.declared.edit.Edit.{Edit}
-use Rattle.gl_kernel.specs.declared.edit.Edit.TheVariants.{Insert, Remove, Set}
+use Rattle.gl_kernel.specs.declared.log_step.LogStep.{LogStep}
+use Rattle.gl_kernel.specs.declared.log_step.LogStep.TheVariants.{Insert, Remove, Set}
 use Rattle.gl_kernel.specs.Edits.{edited, IsWithin}
 
-pub length_grows : {T : Type 0} (e : Edit T) (xs : List T) → IsWithin e xs → length (edited e xs) ≤ length xs + 1
+pub length_grows : {T : Type 0} (e : LogStep T) (xs : List T) → IsWithin e xs → length (edited e xs) ≤ length xs + 1
 length_grows (Insert at x) xs h = omega (arith, length-insert xs at x h)
 length_grows (Remove at) xs h = omega (arith, length-remove xs at h)
 length_grows (Set at x) xs h = omega (arith, length-set xs at x)
@@ -68,7 +68,7 @@ set_grows (b ∷ []) (suc at) x = omega arith
 set_grows (b ∷ c ∷ cs) (suc zero) x = omega (arith, first_more b (x ∷ cs), first_more x cs, first_less c cs, first_less b (c ∷ cs))
 set_grows (b ∷ c ∷ cs) (suc (suc at)) x = omega (arith, set_grows (c ∷ cs) (suc at) x)
 
-pub stretches_grow : (e : Edit Bool) (xs : List Bool) → IsWithin e xs → stretch_count (edited e xs) ≤ stretch_count xs + 2
+pub stretches_grow : (e : LogStep Bool) (xs : List Bool) → IsWithin e xs → stretch_count (edited e xs) ≤ stretch_count xs + 2
 stretches_grow (Insert at x) xs h = insert_grows xs at x
 stretches_grow (Remove at) xs h = omega (arith, remove_grows xs at)
 stretches_grow (Set at x) xs h = set_grows xs at x

@@ -5,3 +5,4 @@ pub mod Growth
 pub mod Spread
 pub mod Plans
 pub mod Found
+pub mod Results

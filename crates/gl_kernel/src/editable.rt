@@ -10,7 +10,7 @@ pub trait Editable {
     type Item: Drop;
 
     ghost use Rattle.std.specs.Prelude.{◌≤◌, ◌+◌, ℕ, List};
-    ghost use Rattle.gl_kernel.specs.declared.edit.Edit.{Edit};
+    ghost use Rattle.gl_kernel.specs.declared.log_step.LogStep.{LogStep};
     ghost use Rattle.gl_kernel.specs.Edits.{edited, IsWithin};
 
     // The items, in order.
@@ -53,5 +53,5 @@ pub trait Editable {
         ensures items { items self.new ≡ slice_set (items self.old) at item }
         ensures room { room self.old ≤ room self.new };
 
-    ghost grows: { (e : Edit Self.Item) (xs : List Self.Item) → IsWithin e xs → need (edited e xs) ≤ need xs + growth };
+    ghost grows: { (e : LogStep Self.Item) (xs : List Self.Item) → IsWithin e xs → need (edited e xs) ≤ need xs + growth };
 }

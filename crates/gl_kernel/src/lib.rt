@@ -3,17 +3,19 @@
 #![tactic(auto)]
 
 mod barcodes;
-mod edit;
 mod editable;
+mod kernel;
 mod list;
 mod log;
+mod log_step;
 mod plan;
 mod telling;
 
-pub use edit::Edit;
 pub use editable::Editable;
 pub use gl_value::Memory;
+pub use kernel::Kernel;
 pub use list::ValueList;
 pub use log::{apply, take_back};
+pub use log_step::LogStep;
 pub use plan::{Plan, element};
 pub use telling::{tell, tell_delete, tell_insert, tell_kept, tell_update};

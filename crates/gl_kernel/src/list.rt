@@ -7,6 +7,7 @@ use gl_counted::Counted;
 use gl_value::{Shelf, Value};
 use std::alloc::{AllocError, Global};
 use std::marker::Model;
+use std::mem;
 
 /// A list of values. Reading and editing at a place take time logarithmic in the length.
 #[derive(Drop)]
@@ -81,9 +82,11 @@ impl Editable for ValueList {
     }
 
     fn replace(&mut self, at: usize, item: Value) -> Value {
-        let old = self.remove(at);
-        self.insert(at, item);
-        old
+        let _len = self.list.len();
+        match self.list.at(at) {
+            Some(handle) => mem::replace(self.list.item_mut(handle), item),
+            None => unreachable!(),
+        }
     }
 
     ghost use Rattle.gl_kernel.specs.Growth.{length_grows};

@@ -3,12 +3,12 @@
 ghost use Rattle.std.specs.Prelude.{◌≡◌, ◌+◌, ◌≤◌, [], length, vec_len, vec_capacity, IfOk, OnOk, OnErr};
 ghost use Rattle.gl_kernel.specs.Edits.{edited, played, insertions, AreWithin, Fits, CanMake, CanPlay};
 
-use crate::edit::Edit;
 use crate::editable::Editable;
+use crate::log_step::LogStep;
 use std::alloc::{AllocError, Global};
 
 // Makes one edit, and answers the one that takes it back.
-fn made<E: Editable>(list: &mut E, edit: Edit<E::Item>) -> Edit<E::Item>
+fn made<E: Editable>(list: &mut E, edit: LogStep<E::Item>) -> LogStep<E::Item>
     requires fits { Fits E.need (E.room list.old) (E.items list.old) }
     requires can { CanMake E.need (E.room list.old) edit (E.items list.old) }
     ensures items { E.items list.new ≡ edited edit (E.items list.old) }
@@ -17,17 +17,17 @@ fn made<E: Editable>(list: &mut E, edit: Edit<E::Item>) -> Edit<E::Item>
     ensures room { E.room list.old ≤ E.room list.new }
 {
     match edit {
-        Edit::Insert(at, item) => {
+        LogStep::Insert(at, item) => {
             list.insert(at, item);
-            Edit::Remove(at)
+            LogStep::Remove(at)
         }
-        Edit::Remove(at) => {
+        LogStep::Remove(at) => {
             let old = list.remove(at);
-            Edit::Insert(at, old)
+            LogStep::Insert(at, old)
         }
-        Edit::Set(at, item) => {
+        LogStep::Set(at, item) => {
             let old = list.replace(at, item);
-            Edit::Set(at, old)
+            LogStep::Set(at, old)
         }
     }
 }
@@ -37,8 +37,8 @@ fn made<E: Editable>(list: &mut E, edit: Edit<E::Item>) -> Edit<E::Item>
 pub fn apply<E: Editable>(
     alloc: Global,
     list: &mut E,
-    log: Vec<Edit<E::Item>>,
-) -> Result<Vec<Edit<E::Item>>, AllocError>
+    log: Vec<LogStep<E::Item>>,
+) -> Result<Vec<LogStep<E::Item>>, AllocError>
     requires within { AreWithin log.items (E.items list.old) }
     requires few { length (E.items list.old) + insertions log.items ≤ 4294967294 }
     ensures ok { OnOk result (E.items list.new ≡ played log.items (E.items list.old)) }
@@ -56,9 +56,9 @@ pub fn apply<E: Editable>(
 // The same, with the log that goes back in the room of `back`.
 fn play<E: Editable>(
     list: &mut E,
-    mut log: Vec<Edit<E::Item>>,
-    mut back: Vec<Edit<E::Item>>,
-) -> Vec<Edit<E::Item>>
+    mut log: Vec<LogStep<E::Item>>,
+    mut back: Vec<LogStep<E::Item>>,
+) -> Vec<LogStep<E::Item>>
     requires can { CanPlay E.need (E.room list.old) log.items (E.items list.old) }
     requires empty { back.items ≡ [] }
     requires room { vec_len log ≤ vec_capacity back }
@@ -74,7 +74,7 @@ fn play<E: Editable>(
 }
 
 /// Makes all edits of a log, the last one first, and gives it up.
-pub fn take_back<E: Editable>(list: &mut E, mut log: Vec<Edit<E::Item>>)
+pub fn take_back<E: Editable>(list: &mut E, mut log: Vec<LogStep<E::Item>>)
     requires { CanPlay E.need (E.room list.old) log.items (E.items list.old) }
     ensures items { E.items list.new ≡ played log.items (E.items list.old) }
     ensures room { E.room list.old ≤ E.room list.new }
@@ -84,4 +84,4 @@ pub fn take_back<E: Editable>(list: &mut E, mut log: Vec<Edit<E::Item>>)
     }
 }
 
-fn discard<T: Drop>(_edit: Edit<T>) {}
+fn discard<T: Drop>(_edit: LogStep<T>) {}

@@ -2,7 +2,7 @@
 
 ghost use Rattle.std.specs.Prelude.{◌≡◌, ◌<◌, [], length, slice_get, Some};
 
-use crate::edit::Edit;
+use crate::log_step::LogStep;
 use gl_delta::Delta;
 use gl_value::{Shelf, Value};
 use std::alloc::Global;
@@ -11,7 +11,7 @@ use std::alloc::Global;
 #[derive(Drop)]
 pub struct Plan<T> {
     pub out: Delta,
-    pub log: Vec<Edit<T>>,
+    pub log: Vec<LogStep<T>>,
     pub place: usize,
 }
 

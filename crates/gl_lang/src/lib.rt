@@ -11,6 +11,7 @@ pub mod path;
 mod tests;
 
 pub use func::{Func, FuncShape, Funcs};
+pub use gl_value::Memory;
 pub use kids::Kids;
 pub use matcher::{Matcher, MatcherShape, Matchers};
 pub use order::{Key, Keys, Order, key_classes};

@@ -1,9 +1,8 @@
 pub mod Lasts
 pub mod Rows
-pub mod Agreeing
-pub mod Made
 pub mod Circles
 pub mod Edges
 pub mod Proxies
 pub mod Parts
+pub mod Limits
 pub mod Sound

@@ -1,4 +1,5 @@
 pub mod Whole
+pub mod Contents
 pub mod Fault
 pub mod Tables
 pub mod Sorts

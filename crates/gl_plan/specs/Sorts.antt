@@ -1,10 +1,6 @@
 -- Sorts of lines, as they are taken one after another.
 use Rattle.std.specs.Prelude.{Bool, true, false}
 use Rattle.gl_lines.specs.declared.line.Line.{Line}
-use Rattle.gl_lines.specs.declared.plan.ListKind.{ListKind}
-use Rattle.gl_lines.specs.declared.plan.ListKind.TheVariants as kinds
-use Rattle.gl_lines.specs.declared.plan.Command.{Command}
-use Rattle.gl_lines.specs.declared.plan.Command.TheVariants as commands
 use Rattle.gl_lines.specs.declared.line.Line.TheVariants.{Filter, Sorted, Unique, Grouping, Range, Function, Collection, Transaction, Freezable, Proxy, Add, AddAll, Insert, Set, Remove, Clear, Begin, Commit, Rollback, Freeze, Thaw, Show}
 
 -- a list whose declaration holds no more than its input and numbers
@@ -44,31 +40,3 @@ is_edit (Insert list index value) = true
 is_edit (Set list index value) = true
 is_edit (Remove list index) = true
 is_edit other = false
-
--- a kind of list whose copy takes no memory
-abbrev pub is_plain_kind : ListKind → Bool
-is_plain_kind (kinds.Range input bounds) = true
-is_plain_kind (kinds.Transaction input) = true
-is_plain_kind (kinds.Freezable input) = true
-is_plain_kind (kinds.Proxy input) = true
-is_plain_kind other = false
-
--- a command that gives a list another matcher, order, function or bounds
-abbrev pub is_change : Command → Bool
-is_change (commands.Match list matcher) = true
-is_change (commands.Order list order) = true
-is_change (commands.Bounds list bounds) = true
-is_change (commands.Apply list func) = true
-is_change other = false
-
--- another command that holds numbers alone
-abbrev pub is_plain_command : Command → Bool
-is_plain_command (commands.Attach list member) = true
-is_plain_command (commands.Detach list index) = true
-is_plain_command (commands.Begin list) = true
-is_plain_command (commands.Commit list) = true
-is_plain_command (commands.Rollback list) = true
-is_plain_command (commands.Freeze list) = true
-is_plain_command (commands.Thaw list) = true
-is_plain_command (commands.Show list) = true
-is_plain_command other = false

@@ -1,45 +1,14 @@
-//! Copies of commands, and whether two are equal.
+//! Whether two commands are equal.
 
-ghost use Rattle.std.specs.Prelude.{◌≡◌, ◌↔◌, ◌||◌, IfOk, IsTrue};
+ghost use Rattle.std.specs.Prelude.{◌≡◌, ◌↔◌, IsTrue};
 ghost use Rattle.gl_lines.specs.declared.plan.Command.TheVariants as commands;
-ghost use Rattle.gl_plan.specs.Sorts.{is_change, is_plain_command};
 
 use crate::alike::Alike;
 use gl_lang::{Bounds, Func, Matcher, Order};
 use gl_lines::Command;
 use gl_value::{Value, Values};
-use std::alloc::{AllocError, Global};
 
 impl Alike for Command {
-    fn copied(&self, alloc: Global) -> Result<Command, AllocError> {
-        Ok(match self {
-            Command::Add { list, value } => Command::Add {
-                list: *list,
-                value: value.copied(alloc)?,
-            },
-            Command::AddAll { list, values } => Command::AddAll {
-                list: *list,
-                values: values.copied(alloc)?,
-            },
-            Command::Insert { list, index, value } => Command::Insert {
-                list: *list,
-                index: *index,
-                value: value.copied(alloc)?,
-            },
-            Command::Set { list, index, value } => Command::Set {
-                list: *list,
-                index: *index,
-                value: value.copied(alloc)?,
-            },
-            Command::Remove { list, index } => Command::Remove {
-                list: *list,
-                index: *index,
-            },
-            Command::Clear { list } => Command::Clear { list: *list },
-            other => return copied_change(alloc, other),
-        })
-    }
-
     fn is_same(&self, other: &Command) -> bool {
         match self {
             Command::Add { list, value } => is_add(other, *list, value),
@@ -61,56 +30,6 @@ impl Alike for Command {
             Command::Thaw { list } => is_thaw(other, *list),
             Command::Show { list } => is_show(other, *list),
         }
-    }
-}
-
-// A copy of a command that gives a list another matcher, order, function or bounds, or else of one without values.
-fn copied_change(alloc: Global, command: &Command) -> Result<Command, AllocError>
-    requires { IsTrue (is_change command.now || is_plain_command command.now) }
-    ensures { IfOk result (λ copy. copy ≡ command.now) }
-{
-    Ok(match command {
-        Command::Match { list, matcher } => Command::Match {
-            list: *list,
-            matcher: matcher.copy(alloc)?,
-        },
-        Command::Order { list, order } => Command::Order {
-            list: *list,
-            order: order.copy(alloc)?,
-        },
-        Command::Bounds { list, bounds } => Command::Bounds {
-            list: *list,
-            bounds: *bounds,
-        },
-        Command::Apply { list, func } => Command::Apply {
-            list: *list,
-            func: func.copy(alloc)?,
-        },
-        other => copied_plain(other),
-    })
-}
-
-// A copy of a command that takes no memory.
-fn copied_plain(command: &Command) -> Command
-    requires { IsTrue (is_plain_command command.now) }
-    ensures { result ≡ command.now }
-{
-    match command {
-        Command::Attach { list, member } => Command::Attach {
-            list: *list,
-            member: *member,
-        },
-        Command::Detach { list, index } => Command::Detach {
-            list: *list,
-            index: *index,
-        },
-        Command::Begin { list } => Command::Begin { list: *list },
-        Command::Commit { list } => Command::Commit { list: *list },
-        Command::Rollback { list } => Command::Rollback { list: *list },
-        Command::Freeze { list } => Command::Freeze { list: *list },
-        Command::Thaw { list } => Command::Thaw { list: *list },
-        Command::Show { list } => Command::Show { list: *list },
-        _ => unreachable!(),
     }
 }
 

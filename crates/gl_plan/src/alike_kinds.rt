@@ -1,54 +1,15 @@
-//! Copies of kinds of lists, and whether two are equal.
+//! Whether two kinds of lists are equal.
 
 ghost use Rattle.std.specs.Prelude.{◌≡◌, ◌↔◌, IsTrue};
 ghost use Rattle.gl_lines.specs.declared.plan.ListKind.TheVariants as kinds;
-ghost use Rattle.gl_plan.specs.Sorts.{is_plain_kind};
 
 use crate::alike::Alike;
 use gl_lang::{Bounds, Func, Kids, Matcher, Order};
 use gl_lines::ListKind;
 use gl_publisher::Numbers;
 use gl_value::Values;
-use std::alloc::{AllocError, Global};
 
 impl Alike for ListKind {
-    fn copied(&self, alloc: Global) -> Result<ListKind, AllocError> {
-        Ok(match self {
-            ListKind::Source { rows } => ListKind::Source {
-                rows: rows.copied(alloc)?,
-            },
-            ListKind::Filter { input, matcher } => ListKind::Filter {
-                input: *input,
-                matcher: matcher.copy(alloc)?,
-            },
-            ListKind::Sorted { input, order } => ListKind::Sorted {
-                input: *input,
-                order: order.copy(alloc)?,
-            },
-            ListKind::Unique { input, order } => ListKind::Unique {
-                input: *input,
-                order: order.copy(alloc)?,
-            },
-            ListKind::Grouping { input, order } => ListKind::Grouping {
-                input: *input,
-                order: order.copy(alloc)?,
-            },
-            ListKind::Function { input, func } => ListKind::Function {
-                input: *input,
-                func: func.copy(alloc)?,
-            },
-            ListKind::Collection { input, kids } => ListKind::Collection {
-                input: *input,
-                kids: kids.copy(alloc)?,
-            },
-            ListKind::Composite { members, may } => ListKind::Composite {
-                members: members.copied(alloc)?,
-                may: may.copied(alloc)?,
-            },
-            other => copied_plain(other),
-        })
-    }
-
     fn is_same(&self, other: &ListKind) -> bool {
         match self {
             ListKind::Source { rows } => is_source(other, rows),
@@ -64,23 +25,6 @@ impl Alike for ListKind {
             ListKind::Freezable { input } => is_freezable(other, *input),
             ListKind::Proxy { input } => is_proxy(other, *input),
         }
-    }
-}
-
-// A copy of a kind that takes no memory.
-fn copied_plain(kind: &ListKind) -> ListKind
-    requires { IsTrue (is_plain_kind kind.now) }
-    ensures { result ≡ kind.now }
-{
-    match kind {
-        ListKind::Range { input, bounds } => ListKind::Range {
-            input: *input,
-            bounds: *bounds,
-        },
-        ListKind::Transaction { input } => ListKind::Transaction { input: *input },
-        ListKind::Freezable { input } => ListKind::Freezable { input: *input },
-        ListKind::Proxy { input } => ListKind::Proxy { input: *input },
-        _ => unreachable!(),
     }
 }
 

@@ -3,6 +3,7 @@
 ghost use Rattle.std.specs.Prelude.{◌≡◌, ◌≤◌, ◌<◌, ◌++◌, [], length, map, slice_get, unwrap_or, All, IfOk, IfErr, OnOk};
 ghost use Rattle.spec_order.specs.Edges.{AreWithin};
 ghost use Rattle.spec_order.specs.Cycle.{HasCycle};
+ghost use Rattle.spec_order.specs.Turns.{turns};
 ghost use Rattle.spec_plans.specs.Plan.{inputs_of, edges_from};
 ghost use Rattle.spec_plans.specs.Cycles.{names_of};
 ghost use Rattle.gl_plan.specs.Fault.{IsRound};
@@ -10,7 +11,7 @@ ghost use Rattle.gl_plan.specs.Fault.{IsRound};
 use crate::fault::{Names, PlanFault};
 use gl_lines::{ListDecl, ListKind, ListenerDecl};
 use gl_names::{Duplicate, Name};
-use gl_publisher::{OrderFault, order};
+use gl_publisher::{Numbers, OrderFault, order};
 use gl_value::Items;
 use std::alloc::{AllocError, Global};
 use std::slice;
@@ -99,15 +100,20 @@ fn with_after(
     with_edges(edges, number, listener.after.as_slice())
 }
 
-/// Nothing, where no item depends on itself through others, or else the names of the first cycle.
-pub(crate) fn in_order(alloc: Global, names: &[Name], edges: &[(u32, u32)]) -> Result<(), PlanFault>
+/// The dependency order of items, where none depends on itself through others, or else the names of the first cycle.
+pub(crate) fn in_order(
+    alloc: Global,
+    names: &[Name],
+    edges: &[(u32, u32)],
+) -> Result<Numbers, PlanFault>
     requires few { length names.now ≤ 256 }
     requires within { AreWithin (length names.now) edges.now }
-    ensures ok { OnOk result (¬ HasCycle edges.now) }
+    ensures order { IfOk result (λ placed. placed ≡ turns (length names.now) edges.now) }
+    ensures acyclic { OnOk result (¬ HasCycle edges.now) }
     ensures cycle { IfErr result (λ fault. IsRound edges.now names.now fault) }
 {
     match order(alloc, names.len() as u32, edges) {
-        Ok(_) => Ok(()),
+        Ok(placed) => Ok(placed),
         Err(OrderFault::Cycle(cycle)) => {
             let names = named(alloc, names, cycle.as_slice())?;
             Err(PlanFault::Cycle { names })

@@ -87,19 +87,6 @@ impl Draft {
 }
 
 impl Alike for Draft {
-    fn copied(&self, alloc: Global) -> Result<Draft, AllocError> {
-        let lists = self.lists.copied(alloc)?;
-        let listeners = self.listeners.copied(alloc)?;
-        let writers = self.writers.copied(alloc)?;
-        Ok(Draft {
-            alloc,
-            limit: self.limit,
-            lists,
-            listeners,
-            writers,
-        })
-    }
-
     fn is_same(&self, other: &Draft) -> bool {
         self.limit == other.limit
             && self.lists.is_same(&other.lists)

@@ -18,6 +18,10 @@ mod tests;
 
 pub use fault::{Names, PlanFault};
 pub use gl_lines::{
-    Command, Line, Lines, ListDecl, ListKind, ListenerDecl, NumberedLine, PlanKind,
+    Command, Line, Lines, ListDecl, ListKind, ListenerDecl, Misplaced, Named, NamedList,
+    NumberedLine, PlanKind,
 };
+pub use gl_names::Name;
+pub use gl_plan_faults::misplaced;
+pub use gl_value::Memory;
 pub use plan::Plan;

@@ -1,14 +1,16 @@
 //! Plans from lines.
 
-ghost use Rattle.std.specs.Prelude.{◌≡◌, ◌≤◌, ◌++◌, None, length, IfOk, IfErr, OnOk};
+ghost use Rattle.std.specs.Prelude.{◌≡◌, ◌≤◌, ◌++◌, None, length, All, IfOk, IfErr, OnOk};
 ghost use Rattle.spec_order.specs.Edges.{AreWithin};
 ghost use Rattle.spec_order.specs.Cycle.{HasCycle};
+ghost use Rattle.spec_order.specs.Turns.{turns};
+ghost use Rattle.spec_lines.specs.Within.{IsWithin};
 ghost use Rattle.spec_plans.specs.Plan.{list_edges, listener_edges, proxies_from};
 ghost use Rattle.spec_plans.specs.NameFaults.{first_fault_at};
 ghost use Rattle.spec_plans.specs.Making.{plan_of};
 ghost use Rattle.spec_plans.specs.Cycles.{IsAcyclic};
 ghost use Rattle.gl_plan.specs.Fault.{IsFaultOf, IsRound, IsCycleFault};
-ghost use Rattle.gl_plan.specs.Whole.{IsPrepared};
+ghost use Rattle.gl_plan.specs.Whole.{IsPrepared, IsWhole};
 ghost use Rattle.gl_plan.specs.Proxies.{proxy_here};
 ghost use Rattle.gl_plan.specs.Tables.{AreTables};
 
@@ -16,20 +18,23 @@ use crate::depend::{edges_of_listeners, edges_of_lists, in_order};
 use crate::draft::Draft;
 use crate::fault::PlanFault;
 use crate::part::part;
-use crate::plan::Plan;
+use crate::plan::{Contents, Plan};
 use crate::tables::Tables;
 use gl_lines::{Lines, ListDecl, ListKind};
 use gl_names::Name;
 use gl_plan_faults::first_fault;
+use gl_publisher::Numbers;
 use gl_value::Items;
 use std::alloc::{AllocError, Global};
 
 impl Plan {
     /// The plan that the lines make, or what is wrong with them: their first fault, or else the first cycle of what
-    /// lists or listeners depend on. What lines hold is moved into the plan. It takes time in proportion to the lines,
-    /// times a logarithm, and memory in proportion to the lines.
+    /// lists or listeners depend on. Each line is within the limits of the language, as every answer of `read_line`
+    /// is. What lines hold is moved into the plan. It takes time in proportion to the lines, times a logarithm, and
+    /// memory in proportion to the lines.
     #[tactic(auto, using(crate::proofs::Sound::fault_of))]
     pub fn from_lines(alloc: Global, lines: Lines) -> Result<Plan, PlanFault>
+        requires { All (λ l. IsWithin l.what) lines }
         ensures plan { IfOk result (λ p. p ≡ plan_of lines) }
         ensures sound { OnOk result (first_fault_at lines ≡ None) }
         ensures acyclic { IfOk result IsAcyclic }
@@ -49,7 +54,8 @@ impl Plan {
 // The plan of lines without a fault, or their first cycle.
 #[tactic(auto, using(crate::proofs::Sound::few_lists, crate::proofs::Sound::few_listeners))]
 fn sound_plan(alloc: Global, lines: Lines) -> Result<Plan, PlanFault>
-    requires { first_fault_at lines ≡ None }
+    requires sound { first_fault_at lines ≡ None }
+    requires within { All (λ l. IsWithin l.what) lines }
     ensures plan { IfOk result (λ p. p ≡ plan_of lines) }
     ensures acyclic { IfOk result IsAcyclic }
     ensures cycle { IfErr result (IsCycleFault (plan_of lines)) }
@@ -65,7 +71,7 @@ fn sound_plan(alloc: Global, lines: Lines) -> Result<Plan, PlanFault>
 }
 
 // The plan, or the names of its first cycle.
-#[tactic(auto, using(crate::proofs::Sound::lists_round, crate::proofs::Sound::listeners_round, crate::proofs::Sound::whole))]
+#[tactic(auto, using(crate::proofs::Sound::prepared_lists, crate::proofs::Sound::prepared_listeners, crate::proofs::Sound::lists_round))]
 fn acyclic_plan(
     alloc: Global,
     draft: Draft,
@@ -79,22 +85,45 @@ fn acyclic_plan(
 {
     match ordered_lists(alloc, &draft, names) {
         Err(fault) => Err(fault),
-        Ok(()) => match ordered_listeners(alloc, &draft, listeners) {
+        Ok(list_order) => match ordered_listeners(alloc, &draft, listeners) {
             Err(fault) => Err(fault),
-            Ok(()) => {
-                let proxies = proxies(alloc, draft.lists.as_slice())?;
-                Ok(Plan { draft, proxies })
-            }
+            Ok(listener_order) => Ok(ordered_plan(alloc, draft, list_order, listener_order)?),
         },
     }
 }
 
-// Nothing, where no list depends on itself through others, or else the names of the first cycle.
-fn ordered_lists(alloc: Global, draft: &Draft, names: &[Name]) -> Result<(), PlanFault>
+// The plan with its orders.
+fn ordered_plan(
+    alloc: Global,
+    draft: Draft,
+    list_order: Numbers,
+    listener_order: Numbers,
+) -> Result<Plan, AllocError>
+    requires whole { IsWhole draft }
+    requires lists { list_order ≡ turns (length draft.lists) (list_edges draft) }
+    requires listeners { listener_order ≡ turns (length draft.listeners) (listener_edges draft) }
+    ensures { IfOk result (λ p. p ≡ draft) }
+{
+    let proxies = proxies(alloc, draft.lists.as_slice())?;
+    Plan::new(
+        alloc,
+        Contents {
+            draft,
+            proxies,
+            list_order,
+            listener_order,
+        },
+    )
+}
+
+// The dependency order of the lists, where none depends on itself through others, or else the names of the first cycle.
+fn ordered_lists(alloc: Global, draft: &Draft, names: &[Name]) -> Result<Numbers, PlanFault>
     requires few { length draft.now.lists ≤ 256 }
-    requires names { length names.now ≤ 256 }
-    requires within { AreWithin (length names.now) (list_edges draft.now) }
-    ensures ok { OnOk result (¬ HasCycle (list_edges draft.now)) }
+    requires names { length names.now ≡ length draft.now.lists }
+    requires within { AreWithin (length draft.now.lists) (list_edges draft.now) }
+    ensures order { IfOk result (λ order.
+        order ≡ turns (length draft.now.lists) (list_edges draft.now)) }
+    ensures acyclic { OnOk result (¬ HasCycle (list_edges draft.now)) }
     ensures cycle { IfErr result (λ fault. IsRound (list_edges draft.now) names.now fault) }
 {
     let edges = edges_of_lists(alloc, draft.lists.as_slice())?;
@@ -102,11 +131,13 @@ fn ordered_lists(alloc: Global, draft: &Draft, names: &[Name]) -> Result<(), Pla
 }
 
 // The same of the listeners.
-fn ordered_listeners(alloc: Global, draft: &Draft, names: &[Name]) -> Result<(), PlanFault>
+fn ordered_listeners(alloc: Global, draft: &Draft, names: &[Name]) -> Result<Numbers, PlanFault>
     requires few { length draft.now.listeners ≤ 256 }
-    requires names { length names.now ≤ 256 }
-    requires within { AreWithin (length names.now) (listener_edges draft.now) }
-    ensures ok { OnOk result (¬ HasCycle (listener_edges draft.now)) }
+    requires names { length names.now ≡ length draft.now.listeners }
+    requires within { AreWithin (length draft.now.listeners) (listener_edges draft.now) }
+    ensures order { IfOk result (λ order.
+        order ≡ turns (length draft.now.listeners) (listener_edges draft.now)) }
+    ensures acyclic { OnOk result (¬ HasCycle (listener_edges draft.now)) }
     ensures cycle { IfErr result (λ fault. IsRound (listener_edges draft.now) names.now fault) }
 {
     let edges = edges_of_listeners(alloc, draft.listeners.as_slice())?;

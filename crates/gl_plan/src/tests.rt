@@ -1,11 +1,17 @@
+//! A small plan, all that it keeps, and a copy. Faults and cycles are tested on texts, where they can be read.
+
+ghost use Rattle.std.specs.Prelude.{All};
+ghost use Rattle.spec_lines.specs.Within.{IsNamed, IsWithin};
+
 use super::*;
-use gl_lines::{Named, NamedList};
 use gl_value::{Items, Text, Value};
 use std::process::Abort;
 
-fn named(rt: &(impl Abort + AllocGlobal), name: &[u8]) -> Named {
+fn named(rt: &(impl Abort + AllocGlobal), name: &[u8]) -> Named
+    ensures { IsNamed result }
+{
     match Text::from_utf8(rt.alloc(), name) {
-        Ok(text) => match gl_names::Name::new(text) {
+        Ok(text) => match Name::new(text) {
             Ok(name) => Named { name, column: 1 },
             Err(_) => panic!(rt; "no name"),
         },
@@ -13,15 +19,11 @@ fn named(rt: &(impl Abort + AllocGlobal), name: &[u8]) -> Named {
     }
 }
 
-fn one(rt: &(impl Abort + AllocGlobal), named: Named) -> NamedList {
-    let mut list = Items::new(rt.alloc());
-    match list.push(named) {
-        Ok(()) => list,
-        Err(_) => panic!(rt; "out of memory"),
-    }
-}
-
-fn add(rt: &(impl Abort + AllocGlobal), lines: &mut Lines, what: Line) {
+fn add(rt: &(impl Abort + AllocGlobal), lines: &mut Lines, what: Line)
+    requires line { IsWithin what }
+    requires others { All (λ l. IsWithin l.what) lines.old }
+    ensures { All (λ l. IsWithin l.what) lines.new }
+{
     let line = lines.len() as u64;
     match lines.push(NumberedLine { line, what }) {
         Ok(()) => {}
@@ -29,53 +31,34 @@ fn add(rt: &(impl Abort + AllocGlobal), lines: &mut Lines, what: Line) {
     }
 }
 
-fn listen(rt: &(impl Abort + AllocGlobal), name: &[u8], after: &[u8]) -> Line {
-    Line::Listen {
-        name: named(rt, name),
-        list: named(rt, b"s"),
-        after: one(rt, named(rt, after)),
-        echo: false,
-    }
-}
-
-// proxy p s; row s 7; source s; writer; section; add s 5; section
-fn small(rt: &(impl Abort + AllocGlobal)) -> Lines {
+// The proxy stands ahead of its source.
+fn small(rt: &(impl Abort + AllocGlobal)) -> Lines
+    ensures { All (λ l. IsWithin l.what) result }
+{
     let mut lines = Items::new(rt.alloc());
-    add(
-        rt,
-        &mut lines,
-        Line::Proxy {
-            name: named(rt, b"p"),
-            input: named(rt, b"s"),
-        },
-    );
-    add(
-        rt,
-        &mut lines,
-        Line::Row {
-            list: named(rt, b"s"),
-            value: Value::num(7),
-        },
-    );
-    add(
-        rt,
-        &mut lines,
-        Line::Source {
-            name: named(rt, b"s"),
-        },
-    );
+    let name = named(rt, b"p");
+    let input = named(rt, b"s");
+    add(rt, &mut lines, Line::Proxy { name, input });
+    let list = named(rt, b"s");
+    let value = Value::num(7);
+    add(rt, &mut lines, Line::Row { list, value });
+    let name = named(rt, b"s");
+    add(rt, &mut lines, Line::Source { name });
     add(rt, &mut lines, Line::Writer);
     add(rt, &mut lines, Line::Section);
-    add(
-        rt,
-        &mut lines,
-        Line::Add {
-            list: named(rt, b"s"),
-            value: Value::num(5),
-        },
-    );
-    add(rt, &mut lines, Line::Section);
+    let list = named(rt, b"s");
+    let value = Value::num(5);
+    add(rt, &mut lines, Line::Add { list, value });
     lines
+}
+
+fn made(rt: &(impl Abort + AllocGlobal), lines: Lines) -> Plan
+    requires { All (λ l. IsWithin l.what) lines }
+{
+    match Plan::from_lines(rt.alloc(), lines) {
+        Ok(plan) => plan,
+        Err(_) => panic!(rt; "no plan"),
+    }
 }
 
 // How many commands the first section of the first writer has.
@@ -89,95 +72,17 @@ fn first_commands(plan: &Plan) -> Option<usize> {
     Some(plan.commands(0, 0).len())
 }
 
-fn made(rt: &(impl Abort + AllocGlobal), lines: Lines) -> Plan {
-    match Plan::from_lines(rt.alloc(), lines) {
-        Ok(plan) => plan,
-        Err(_) => panic!(rt; "no plan"),
-    }
-}
-
 #[test]
 fn a_plan_of_a_few_lines(rt: HostRuntime) {
     let plan = made(&rt, small(&rt));
-    assert_eq!(rt; plan.limit(), 16_777_216);
-    assert_eq!(rt; plan.lists().len(), 2);
-    assert_eq!(rt; plan.listeners().len(), 0);
+    assert_eq!(rt; (plan.limit(), plan.lists().len()), (16_777_216, 2));
     assert_eq!(rt; plan.proxies(), [0u32].as_slice());
-    assert_eq!(rt; plan.writers(), 1);
+    assert_eq!(rt; plan.list_order(), [1u32, 0].as_slice());
+    assert_eq!(rt; plan.listener_order().len(), plan.listeners().len());
     assert_eq!(rt; first_commands(&plan), Some(1));
     match plan.copy(rt.alloc()) {
         Ok(copy) => assert!(rt; plan.same(&copy)),
         Err(_) => panic!(rt; "out of memory"),
     }
-    let nothing = made(&rt, Items::new(rt.alloc()));
-    assert!(rt; !plan.same(&nothing));
-}
-
-#[test]
-fn a_fault_of_a_line(rt: HostRuntime) {
-    let mut lines = small(&rt);
-    add(
-        &rt,
-        &mut lines,
-        Line::Clear {
-            list: named(&rt, b"p"),
-        },
-    );
-    match Plan::from_lines(rt.alloc(), lines) {
-        Err(PlanFault::At { line, column, kind }) => {
-            assert_eq!(rt; (line, column, kind), (7, 1, PlanKind::Kind));
-        }
-        _ => panic!(rt; "no fault"),
-    }
-}
-
-// Whether the first of the names is this one.
-fn begins_with(names: &Names, name: &[u8]) -> bool {
-    match names.as_slice().first() {
-        Some(first) => first.text().bytes() == name,
-        None => false,
-    }
-}
-
-fn check_cycle(rt: &(impl Abort + AllocGlobal), lines: Lines, first: &[u8]) {
-    match Plan::from_lines(rt.alloc(), lines) {
-        Err(PlanFault::Cycle { names }) => {
-            assert_eq!(rt; names.len(), 2);
-            assert!(rt; begins_with(&names, first));
-        }
-        _ => panic!(rt; "no cycle"),
-    }
-}
-
-#[test]
-fn cycles(rt: HostRuntime) {
-    let mut lines = Items::new(rt.alloc());
-    add(
-        &rt,
-        &mut lines,
-        Line::Source {
-            name: named(&rt, b"s"),
-        },
-    );
-    add(&rt, &mut lines, listen(&rt, b"b", b"a"));
-    add(&rt, &mut lines, listen(&rt, b"a", b"b"));
-    check_cycle(&rt, lines, b"b");
-    let mut lists = Items::new(rt.alloc());
-    add(
-        &rt,
-        &mut lists,
-        Line::Proxy {
-            name: named(&rt, b"q"),
-            input: named(&rt, b"p"),
-        },
-    );
-    add(
-        &rt,
-        &mut lists,
-        Line::Proxy {
-            name: named(&rt, b"p"),
-            input: named(&rt, b"q"),
-        },
-    );
-    check_cycle(&rt, lists, b"q");
+    assert!(rt; !plan.same(&made(&rt, Items::new(rt.alloc()))));
 }

@@ -3,7 +3,7 @@
 ghost use Rattle.std.specs.Prelude.{◌≡◌, ◌++◌, ◌||◌, flat_map, IsTrue, OnOk};
 ghost use Rattle.spec_lines.specs.Spelled.{spelled_line};
 ghost use Rattle.spec_canonical.specs.Canonical.{command_line};
-ghost use Rattle.gl_plan.specs.Sorts.{is_change, is_plain_command};
+ghost use Rattle.gl_plan_spelling.specs.Sorts.{is_change, is_plain_command};
 ghost use Rattle.gl_plan_spelling.specs.Texts.{names_of_decls, command_text, section_text};
 
 use crate::name::list_name;

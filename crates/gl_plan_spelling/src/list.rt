@@ -3,7 +3,7 @@
 ghost use Rattle.std.specs.Prelude.{◌≡◌, ◌++◌, flat_map, IsTrue, OnOk};
 ghost use Rattle.spec_lines.specs.Spelled.{spelled_line};
 ghost use Rattle.spec_canonical.specs.Canonical.{unplaced_name, list_line};
-ghost use Rattle.gl_plan.specs.Sorts.{is_plain_kind};
+ghost use Rattle.gl_plan_spelling.specs.Sorts.{is_plain_kind};
 ghost use Rattle.gl_lines.specs.declared.plan.ListKind.TheVariants as kinds;
 ghost use Rattle.gl_plan_spelling.specs.Texts.{names_of_decls, list_text, row_text, rows_text};
 

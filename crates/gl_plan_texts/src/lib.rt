@@ -10,6 +10,7 @@ mod stop;
 mod tests;
 
 pub use gl_plan::{Plan, PlanFault};
+pub use gl_value::Memory;
 pub use plan::read_plan;
 pub use reading::read_lines;
 pub use stop::Stop;

@@ -49,7 +49,7 @@ fn behind_header(bytes: &[u8]) -> Option<&[u8]>
 }
 
 // The plan of the lines behind the first one.
-#[tactic(auto, using(crate::proofs::Whole::plan_either, crate::proofs::Whole::stopped_at))]
+#[tactic(auto, using(crate::proofs::Whole::plan_either, crate::proofs::Whole::stopped_at, spec_plan_laws::proofs::Read::lines_within))]
 fn plan_behind(alloc: Global, rest: &[u8]) -> Result<Plan, PlanFault>
     requires { IsUtf8 rest.now }
     ensures { MatchResult result (Makes (lines_in rest.now)) (FailsBehind (lines_in rest.now)) }

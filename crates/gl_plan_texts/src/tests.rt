@@ -1,10 +1,9 @@
-//! Whole texts, with their plans and their first faults.
+//! Whole texts, with their plans, their first faults and their first cycles.
 
 use crate::read_plan;
-use gl_lines::{ListKind, PlanKind};
+use gl_lines::PlanKind;
 use gl_plan::{Names, Plan, PlanFault};
-use gl_value::{Value, ValueShape};
-use std::test::Fail;
+use std::process::Abort;
 
 /// A text, and the line, the column and the kind of its first fault.
 const FAULTS: [(&[u8], u64, u64, PlanKind); 19] = [
@@ -74,25 +73,51 @@ const FAULTS: [(&[u8], u64, u64, PlanKind); 19] = [
     ),
 ];
 
+/// A text, and the names of its first cycle: that of lists comes first.
+const CYCLES: [(&[u8], [&[u8]; 2]); 3] = [
+    (
+        b"glaze 1\nsource s\nlisten b on s after a\nlisten a on s after b\n",
+        [b"b", b"a"],
+    ),
+    (b"glaze 1\nproxy q p\nproxy p q", [b"q", b"p"]),
+    (
+        b"glaze 1\nlisten b on q after a\nlisten a on q after b\nproxy q p\nproxy p q",
+        [b"q", b"p"],
+    ),
+];
+
+/// Two texts of one plan.
+const ALIKE: [(&[u8], &[u8]); 3] = [
+    (
+        b"glaze 1\nsource s\nrow s 1\ncsv s\n01,-5,\"a,b\"\nend csv\nrow s 2",
+        b"glaze 1\nsource s\nrow s 1\nrow s [\"01\",-5,\"a,b\"]\nrow s 2\n",
+    ),
+    (
+        b"glaze 1\nlimit 16777216\n# no more\n\nwriter",
+        b"glaze 1\nwriter\n",
+    ),
+    (
+        b"glaze 1\nrow s [1]\nlisten l on p\nproxy p s\nsource s\n",
+        b"glaze 1\nproxy p s\nsource s\ncsv s\n1\nend csv\nlisten l on p",
+    ),
+];
+
+fn fault(rt: &(impl Abort + AllocGlobal), text: &[u8]) -> Option<(u64, u64, PlanKind)> {
+    match read_plan(rt.alloc(), text) {
+        Err(PlanFault::At { line, column, kind }) => Some((line, column, kind)),
+        _ => None,
+    }
+}
+
 #[test]
 fn says_which_fault_is_the_first(rt: HostRuntime) {
-    for (text, line, column, kind) in FAULTS {
-        match read_plan(rt.alloc(), text) {
-            Err(
-                PlanFault::At {
-                    line: l,
-                    column: c,
-                    kind: k,
-                },
-            ) => assert_eq!(rt; (l, c, k), (line, column, kind)),
-            Err(_) => panic!(rt; "another fault"),
-            Ok(_) => panic!(rt; "{text:?} is read"),
-        }
+    for (text, line, column, kind) in &FAULTS {
+        assert!(rt; fault(&rt, text) == Some((*line, *column, *kind)));
     }
 }
 
 // Whether these are the names.
-fn are_names(names: &Names, wanted: [&[u8]; 2]) -> bool {
+fn are_names(names: &Names, wanted: &[&[u8]; 2]) -> bool {
     match names.as_slice() {
         [first, second] => {
             first.text().bytes() == wanted[0] && second.text().bytes() == wanted[1]
@@ -101,63 +126,30 @@ fn are_names(names: &Names, wanted: [&[u8]; 2]) -> bool {
     }
 }
 
+fn has_cycle(rt: &(impl Abort + AllocGlobal), text: &[u8], wanted: &[&[u8]; 2]) -> bool {
+    match read_plan(rt.alloc(), text) {
+        Err(PlanFault::Cycle { names }) => are_names(&names, wanted),
+        _ => false,
+    }
+}
+
 #[test]
 fn names_the_first_cycle(rt: HostRuntime) {
-    let text = b"glaze 1\nsource s\nlisten b on s after a\nlisten a on s after b\n";
+    for (text, wanted) in &CYCLES {
+        assert!(rt; has_cycle(&rt, text, wanted));
+    }
+}
+
+fn plan(rt: &(impl Abort + AllocGlobal), text: &[u8]) -> Plan {
     match read_plan(rt.alloc(), text) {
-        Err(PlanFault::Cycle { names }) => assert!(rt; are_names(&names, [b"b", b"a"])),
-        Err(_) => panic!(rt; "another fault"),
-        Ok(_) => panic!(rt; "the text is read"),
-    }
-}
-
-// The opening elements of the first list.
-fn rows(plan: &Plan) -> &[Value] {
-    match plan.lists() {
-        [first, ..] => match &first.kind {
-            ListKind::Source { rows } => rows.as_slice(),
-            _ => &[],
-        },
-        [] => &[],
-    }
-}
-
-// Whether a value is a list of this text, this number and another text.
-fn is_record(value: &Value, first: &[u8], second: i64, third: &[u8]) -> bool {
-    let ValueShape::Items([a, b, c]) = value.shape() else {
-        return false;
-    };
-    is_text(a, first) && is_number(b, second) && is_text(c, third)
-}
-
-fn is_text(value: &Value, bytes: &[u8]) -> bool {
-    match value.shape() {
-        ValueShape::Text(text) => text.bytes() == bytes,
-        _ => false,
-    }
-}
-
-fn is_number(value: &Value, number: i64) -> bool {
-    match value.shape() {
-        ValueShape::Num(n) => n == number,
-        _ => false,
+        Ok(plan) => plan,
+        Err(_) => panic!(rt; "a fault"),
     }
 }
 
 #[test]
-fn reads_blocks_of_records(rt: HostRuntime) -> Result<(), Fail> {
-    let text = b"glaze 1\nsource s\nrow s 1\ncsv s\n01,-5,\"a,b\"\nend csv\nrow s 2";
-    let plan = match read_plan(rt.alloc(), text) {
-        Ok(plan) => plan,
-        Err(_) => panic!(rt; "a fault"),
-    };
-    match rows(&plan) {
-        [first, record, last] => {
-            assert!(rt; is_number(first, 1));
-            assert!(rt; is_record(record, b"01", -5, b"a,b"));
-            assert!(rt; is_number(last, 2));
-        }
-        _ => panic!(rt; "other rows"),
+fn reads_one_plan_of_two_texts(rt: HostRuntime) {
+    for (text, other) in &ALIKE {
+        assert!(rt; plan(&rt, text).same(&plan(&rt, other)));
     }
-    Ok(())
 }

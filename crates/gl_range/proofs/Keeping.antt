@@ -8,7 +8,8 @@ use Rattle.spec_lists.proofs.Lengths.{old_len-identity, new_len-identity}
 use Rattle.spec_views.specs.Chosen.{told_of_pair}
 use Rattle.gl_range.specs.declared.follow.Slices.{Slices}
 use Rattle.gl_range.specs.Told.{shows, AreAlike, value_at, told_in, told_alike}
-use Rattle.gl_range.proofs.Telling.{told-append, pair-append}
+use Rattle.gl_kernel.proofs.Pairing.{pair-append}
+use Rattle.gl_range.proofs.Telling.{told-append}
 
 -- the same places, counted from the next one
 abbrev All : (ℕ → Bool) → Bool → ℕ → ℕ → Type 0

@@ -1,39 +1,20 @@
 -- What is told with the values of the new input is what the definition tells.
-use Rattle.std.specs.Prelude.{◌≡◌, ℕ, zero, suc, ◌+◌, ◌≤◌, ◌&&◌, nat_le, nat_lt, Bool, true, false, List, [], ◌∷◌, ◌++◌, drop, refl}
+use Rattle.std.specs.Prelude.{◌≡◌, ℕ, zero, suc, ◌+◌, ◌≤◌, ◌&&◌, nat_le, nat_lt, pos, Bool, true, false, List, [], ◌∷◌, ◌++◌, drop, refl}
 use Rattle.std.proofs.Common.{ap, sym, ◌∙◌, arith}
-use Rattle.spec_value.specs.Tree.{Tree}
+use Rattle.spec_value.specs.Tree.{Tree, num}
 use Rattle.spec_lists.specs.Piece.{Piece, kept, updated, deleted, inserted, identity, old_len, new_len, normal}
 use Rattle.spec_lists.specs.Leads.{LeadsFrom, applied}
-use Rattle.spec_lists.proofs.Normal.{old_len-normal, new_len-normal}
 use Rattle.spec_views.specs.Chosen.{Choice, told_of_pair, told_of_old, told_of_new, told_from, follow_chosen}
 use Rattle.spec_lang.specs.declared.Bounds.{Bounds}
 use Rattle.spec_views.specs.Range.{start_of, end_of, by_place}
 use Rattle.spec_lists.proofs.Lengths.{old_len-identity, new_len-identity}
-use Rattle.spec_lists.proofs.Changing.{old_len-append, new_len-append}
 use Rattle.gl_kernel.specs.Plans.{CanTell}
-use Rattle.gl_kernel.proofs.Spreading.{told_olds, told_news}
+use Rattle.gl_kernel.proofs.Spreading.{can_tell_whole}
+use Rattle.gl_kernel.proofs.Reading.{drop_first}
+use Rattle.gl_kernel.proofs.Pairing.{pair-append, old-append, new-append, pair_olds, pair_news, old_olds, old_news, new_olds, new_news}
 use Rattle.gl_range.specs.declared.slice.Slice.{Slice}
 use Rattle.gl_range.specs.declared.follow.Slices.{Slices}
 use Rattle.gl_range.specs.Told.{shows, value_at, told_in}
-
--- the first element behind a place, and what is behind that
-drop_first : (ys : List Tree) (j : ℕ) (x : Tree) (zs : List Tree) → drop j ys ≡ x ∷ zs → (value_at ys j ≡ x) × (drop (suc j) ys ≡ zs)
-drop_first [] zero x zs e = absurd (none x zs e)
-  where
-    none : (y : Tree) (us : List Tree) → [] ≡ y ∷ us → ⊥
-    none y us f = cc
-drop_first [] (suc j) x zs e = absurd (none x zs e)
-  where
-    none : (y : Tree) (us : List Tree) → [] ≡ y ∷ us → ⊥
-    none y us f = cc
-drop_first (y ∷ ys) zero x zs e = (head y x ys zs e, tail y x ys zs e)
-  where
-    head : (a b : Tree) (us vs : List Tree) → a ∷ us ≡ b ∷ vs → a ≡ b
-    head a b us vs f = cc
-
-    tail : (a b : Tree) (us vs : List Tree) → a ∷ us ≡ b ∷ vs → us ≡ vs
-    tail a b us vs f = cc
-drop_first (y ∷ ys) (suc j) x zs e = drop_first ys j x zs e
 
 same_kept : (a b c d : Bool) (x y : Tree) (r s : List Piece) → a ≡ b → c ≡ d → x ≡ y → r ≡ s → told_of_pair a c kept x x r ≡ told_of_pair b d kept y y s
 same_kept a b c d x y r s e f g h = cc
@@ -56,32 +37,18 @@ pub told_is : (before after : Choice) (slices : Slices) → IsBy slices.was befo
 told_is before after slices b a ys xs [] i j h e = refl
 told_is before after slices b a ys [] (kept ∷ ps) i j h e = absurd h
 told_is before after slices b a ys (x ∷ xs) (kept ∷ ps) i j h e =
-    let next = drop_first ys j x (applied ps xs) e in
+    let next = drop_first (num (pos 0)) ys j x (applied ps xs) e in
     same_kept _ _ _ _ _ _ _ _ (b i x) (a j x) (sym next.0) (told_is before after slices b a ys xs ps (suc i) (suc j) h next.1)
 told_is before after slices b a ys [] (updated v w ∷ ps) i j h e = absurd h
 told_is before after slices b a ys (x ∷ xs) (updated v w ∷ ps) i j h e =
-    let next = drop_first ys j w (applied ps xs) e in
+    let next = drop_first (num (pos 0)) ys j w (applied ps xs) e in
     same_updated _ _ _ _ v w _ _ (b i v) (a j w) (told_is before after slices b a ys xs ps (suc i) (suc j) h.1 next.1)
 told_is before after slices b a ys [] (deleted v ∷ ps) i j h e = absurd h
 told_is before after slices b a ys (x ∷ xs) (deleted v ∷ ps) i j h e =
     same_old _ _ v _ _ (b i v) (told_is before after slices b a ys xs ps (suc i) j h.1 e)
 told_is before after slices b a ys xs (inserted w ∷ ps) i j h e =
-    let next = drop_first ys j w (applied ps xs) e in
+    let next = drop_first (num (pos 0)) ys j w (applied ps xs) e in
     same_new _ _ w _ _ (a j w) (told_is before after slices b a ys xs ps i (suc j) h next.1)
-
-pub pair-append : (b c : Bool) (p : Piece) (v w : Tree) (r s : List Piece) → told_of_pair b c p v w (r ++ s) ≡ told_of_pair b c p v w r ++ s
-pair-append true true p v w r s = refl
-pair-append true false p v w r s = refl
-pair-append false true p v w r s = refl
-pair-append false false p v w r s = refl
-
-old-append : (b : Bool) (v : Tree) (r s : List Piece) → told_of_old b v (r ++ s) ≡ told_of_old b v r ++ s
-old-append true v r s = refl
-old-append false v r s = refl
-
-new-append : (b : Bool) (w : Tree) (r s : List Piece) → told_of_new b w (r ++ s) ≡ told_of_new b w r ++ s
-new-append true w r s = refl
-new-append false w r s = refl
 
 -- told from other places that are the same
 from_same : (ys : List Tree) (slices : Slices) (i j k l : ℕ) (ps : List Piece) → i ≡ k → j ≡ l → told_in ys slices i j ps ≡ told_in ys slices k l ps
@@ -109,81 +76,29 @@ told-append ys slices i j (inserted w ∷ ps) qs =
     let shift = from_same ys slices (i + old_len ps) (suc j + new_len ps) (i + old_len ps) (j + suc (new_len ps)) qs refl (omega arith) in
     ap (told_of_new (shows slices.is j) w) (rest ∙ ap (λ qs. told_in ys slices i (suc j) ps ++ qs) shift) ∙ new-append (shows slices.is j) w _ _
 
--- a pair adds at most an element to either side
-pair_olds : (b c : Bool) (v w x y : Tree) (r : List Piece) → old_len (told_of_pair b c (updated v w) x y r) ≤ suc (old_len r)
-pair_olds true true v w x y r = omega arith
-pair_olds true false v w x y r = omega arith
-pair_olds false true v w x y r = omega arith
-pair_olds false false v w x y r = omega arith
-
-pair_news : (b c : Bool) (v w x y : Tree) (r : List Piece) → new_len (told_of_pair b c (updated v w) x y r) ≤ suc (new_len r)
-pair_news true true v w x y r = omega arith
-pair_news true false v w x y r = omega arith
-pair_news false true v w x y r = omega arith
-pair_news false false v w x y r = omega arith
-
-kept_olds : (b c : Bool) (x : Tree) (r : List Piece) → old_len (told_of_pair b c kept x x r) ≤ suc (old_len r)
-kept_olds true true x r = omega arith
-kept_olds true false x r = omega arith
-kept_olds false true x r = omega arith
-kept_olds false false x r = omega arith
-
-kept_news : (b c : Bool) (x : Tree) (r : List Piece) → new_len (told_of_pair b c kept x x r) ≤ suc (new_len r)
-kept_news true true x r = omega arith
-kept_news true false x r = omega arith
-kept_news false true x r = omega arith
-kept_news false false x r = omega arith
-
-old_olds : (b : Bool) (v : Tree) (r : List Piece) → old_len (told_of_old b v r) ≤ suc (old_len r)
-old_olds true v r = omega arith
-old_olds false v r = omega arith
-
-old_news : (b : Bool) (v : Tree) (r : List Piece) → new_len (told_of_old b v r) ≡ new_len r
-old_news true v r = refl
-old_news false v r = refl
-
-new_olds : (b : Bool) (w : Tree) (r : List Piece) → old_len (told_of_new b w r) ≡ old_len r
-new_olds true w r = refl
-new_olds false w r = refl
-
-new_news : (b : Bool) (w : Tree) (r : List Piece) → new_len (told_of_new b w r) ≤ suc (new_len r)
-new_news true w r = omega arith
-new_news false w r = omega arith
-
 -- no more is told than there is
 in_olds : (ys : List Tree) (slices : Slices) (i j : ℕ) (ps : List Piece) → old_len (told_in ys slices i j ps) ≤ old_len ps
 in_olds ys slices i j [] = omega arith
 in_olds ys slices i j (kept ∷ ps) =
-    omega (arith, kept_olds (shows slices.was i) (shows slices.is j) (value_at ys j) (told_in ys slices (suc i) (suc j) ps), in_olds ys slices (suc i) (suc j) ps)
+    omega (arith, pair_olds (shows slices.was i) (shows slices.is j) kept (value_at ys j) (value_at ys j) (told_in ys slices (suc i) (suc j) ps), in_olds ys slices (suc i) (suc j) ps)
 in_olds ys slices i j (updated v w ∷ ps) =
-    omega (arith, pair_olds (shows slices.was i) (shows slices.is j) v w v w (told_in ys slices (suc i) (suc j) ps), in_olds ys slices (suc i) (suc j) ps)
+    omega (arith, pair_olds (shows slices.was i) (shows slices.is j) (updated v w) v w (told_in ys slices (suc i) (suc j) ps), in_olds ys slices (suc i) (suc j) ps)
 in_olds ys slices i j (deleted v ∷ ps) = omega (arith, old_olds (shows slices.was i) v (told_in ys slices (suc i) j ps), in_olds ys slices (suc i) j ps)
 in_olds ys slices i j (inserted w ∷ ps) = omega (arith, new_olds (shows slices.is j) w (told_in ys slices i (suc j) ps), in_olds ys slices i (suc j) ps)
 
 in_news : (ys : List Tree) (slices : Slices) (i j : ℕ) (ps : List Piece) → new_len (told_in ys slices i j ps) ≤ new_len ps
 in_news ys slices i j [] = omega arith
 in_news ys slices i j (kept ∷ ps) =
-    omega (arith, kept_news (shows slices.was i) (shows slices.is j) (value_at ys j) (told_in ys slices (suc i) (suc j) ps), in_news ys slices (suc i) (suc j) ps)
+    omega (arith, pair_news (shows slices.was i) (shows slices.is j) kept (value_at ys j) (value_at ys j) (told_in ys slices (suc i) (suc j) ps), in_news ys slices (suc i) (suc j) ps)
 in_news ys slices i j (updated v w ∷ ps) =
-    omega (arith, pair_news (shows slices.was i) (shows slices.is j) v w v w (told_in ys slices (suc i) (suc j) ps), in_news ys slices (suc i) (suc j) ps)
+    omega (arith, pair_news (shows slices.was i) (shows slices.is j) (updated v w) v w (told_in ys slices (suc i) (suc j) ps), in_news ys slices (suc i) (suc j) ps)
 in_news ys slices i j (deleted v ∷ ps) = omega (arith, old_news (shows slices.was i) v (told_in ys slices (suc i) j ps), in_news ys slices (suc i) j ps)
 in_news ys slices i j (inserted w ∷ ps) = omega (arith, new_news (shows slices.is j) w (told_in ys slices i (suc j) ps), in_news ys slices i (suc j) ps)
 
 -- of what is told from places on, each part can be
 pub can_tell : (ys : List Tree) (slices : Slices) (ps out told rest : List Piece) → old_len ps ≤ 2147483647 → new_len ps ≤ 2147483647 → normal (out ++ (told ++ rest)) ≡ normal (told_in ys slices 0 0 ps) → CanTell told out
 can_tell ys slices ps out told rest h k e =
-    let whole = told_in ys slices 0 0 ps in
-    record {
-      olds = omega (arith, told_olds (normal whole) out told rest e, old_len-normal whole, in_olds ys slices 0 0 ps, h);
-      news = omega (arith, told_news (normal whole) out told rest e, new_len-normal whole, in_news ys slices 0 0 ps, k);
-    }
-
--- what can be told in one can be told in parts
-pub can_tell_part : (out more told part rest : List Piece) → CanTell told out → normal (more ++ (part ++ rest)) ≡ normal (out ++ told) → CanTell part more
-can_tell_part out more told part rest can e = record {
-  olds = omega (arith, told_olds (normal (out ++ told)) more part rest e, old_len-normal (out ++ told), old_len-append out told, can.olds);
-  news = omega (arith, told_news (normal (out ++ told)) more part rest e, new_len-normal (out ++ told), new_len-append out told, can.news);
-}
+    can_tell_whole (told_in ys slices 0 0 ps) out told rest (omega (arith, in_olds ys slices 0 0 ps, h)) (omega (arith, in_news ys slices 0 0 ps, k)) e
 
 -- a slice is what bounds show of so many elements
 pub record IsSlice (bounds : Bounds) (n : ℕ) (slice : Slice) : Type 0 where

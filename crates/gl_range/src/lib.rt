@@ -4,6 +4,7 @@
 
 mod follow;
 mod keeps;
+mod kernel;
 mod range;
 mod slice;
 #[cfg(test)]

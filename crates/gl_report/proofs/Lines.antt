@@ -1,31 +1,95 @@
 -- Writing the lines of entries and of lists one after another.
-use Rattle.std.proofs.Common.{◌≡◌, ◌∙◌, ℕ, zero, suc, ◌+◌, ◌-◌, ◌<◌, ◌++◌, List, [], ◌∷◌, length, get_or, take, drop, ap, sym, arith, append_assoc, eq-eqb, refl, subst}
-use Rattle.std.specs.Prelude.{unwrap_or, slice_get}
+use Rattle.std.proofs.Common.{◌≡◌, ◌∙◌, ℕ, zero, suc, ◌+◌, ◌-◌, ◌<◌, ◌≤◌, ◌++◌, List, [], ◌∷◌, length, get_or, take, drop, ap, sym, arith, append_assoc, append-nil, eq-eqb, refl, subst}
+use Rattle.std.specs.Prelude.{unwrap_or, slice_get, codes}
 use Rattle.std.proofs.lemmas.List.{take_all, length-drop}
 use Rattle.gl_outside.specs.declared.gate.Actor.{Actor}
 use Rattle.gl_lines.specs.declared.plan.ListDecl.{ListDecl}
 use Rattle.gl_lines.specs.declared.plan.ListenerDecl.{ListenerDecl}
 use Rattle.gl_lines.specs.declared.reply.Reply.{Reply}
 use Rattle.spec_plans.specs.Plan.{Plan}
+use Rattle.spec_states.specs.State.{Own, State, source, over, composite, transaction, freezable, proxy, own_at}
 use Rattle.spec_states.specs.Shown.{Table, shows_in}
 use Rattle.spec_runs.specs.Telling.{Telling}
-use Rattle.spec_reports.specs.Report.{told_lines, told_first, told_later, entry_lines, list_lines}
+use Rattle.spec_texts.specs.Value.{spelled_list}
+use Rattle.spec_states.proofs.Plain.{IsPlainOwn}
+use Rattle.spec_reports.specs.Report.{line_feed, refused_lines, held_line, told_lines, told_first, told_later, entry_lines, list_lines, listener_name}
+use Rattle.spec_reports.specs.Event.{event_text}
 use Rattle.gl_world.specs.declared.telling.Telling.{Telling as Told}
 use Rattle.gl_world.specs.Told.{telling_data, tellings_of}
 use Rattle.gl_report.specs.Lines.{spelled_entry, list_line, told_line}
 
-list_step : (lists : List ListDecl) (shown : Table) (k : ℕ) (d : ListDecl) → k < length lists → length lists ≡ length shown → d ≡ get_or lists k d → list_lines (drop k lists) (drop k shown) ≡ list_line d.name (shows_in shown k) ++ list_lines (drop (suc k) lists) (drop (suc k) shown)
-list_step [] shown k d within same is = absurd (omega arith)
-list_step (e ∷ lists) [] k d within same is = absurd (omega arith)
-list_step (e ∷ lists) (values ∷ shown) zero d within same is = ap (λ x. list_line x.name values ++ list_lines lists shown) (sym is)
-list_step (e ∷ lists) (values ∷ shown) (suc k) d within same is = list_step lists shown k d (omega arith) (omega arith) is
+-- a list over at most one input is never held
+held_plain : (name : List ℕ) (own : Own) → IsPlainOwn own → held_line name own ≡ []
+held_plain name (source contents) plain = refl
+held_plain name (over input view) plain = refl
+held_plain name (composite needed members) plain = absurd plain
+held_plain name (transaction input levels) plain = absurd plain
+held_plain name (freezable input since) plain = absurd plain
+held_plain name (proxy input kept queue) plain = absurd plain
+
+list_step : (lists : List ListDecl) (shown : Table) (state : State) (k : ℕ) (d : ListDecl) → k < length lists
+    → length lists ≡ length shown → length lists ≡ length state → d ≡ get_or lists k d → IsPlainOwn (own_at state k)
+    → list_lines (drop k lists) (drop k shown) (drop k state)
+    ≡ list_line d.name (shows_in shown k) ++ list_lines (drop (suc k) lists) (drop (suc k) shown) (drop (suc k) state)
+list_step [] shown state k d within same many is plain = absurd (omega arith)
+list_step (e ∷ lists) [] state k d within same many is plain = absurd (omega arith)
+list_step (e ∷ lists) (values ∷ shown) [] k d within same many is plain = absurd (omega arith)
+list_step (e ∷ lists) (values ∷ shown) (own ∷ state) zero d within same many is plain =
+    let rest : List ℕ = list_lines lists shown state in
+    let line : List ℕ = list_line e.name values in
+    ap (λ h. codes "list " ++ e.name ++ codes " " ++ spelled_list values ++ line_feed ++ h ++ rest) (held_plain e.name own plain)
+    ∙ parted (codes "list ") e.name (codes " ") (spelled_list values) line_feed rest
+    ∙ ap (λ x. list_line x.name values ++ rest) (sym is)
+  where
+    parted : (a b c d e rest : List ℕ) → a ++ b ++ c ++ d ++ e ++ [] ++ rest ≡ (a ++ b ++ c ++ d ++ e) ++ rest
+    parted a b c d e rest = simp (append_assoc, append-nil) refl
+list_step (e ∷ lists) (values ∷ shown) (own ∷ state) (suc k) d within same many is plain =
+    list_step lists shown state k d (omega arith) (omega arith) (omega arith) is plain
 
 -- one list more is written, of those from a place on
-pub list_more : (out before : List ℕ) (lists : List ListDecl) (shown : Table) (k : ℕ) (d : ListDecl) → k < length lists → length lists ≡ length shown → d ≡ get_or lists k d → out ++ list_lines (drop k lists) (drop k shown) ≡ before → (out ++ list_line d.name (shows_in shown k)) ++ list_lines (drop (k + 1) lists) (drop (k + 1) shown) ≡ before
-list_more out before lists shown k d within same is whole =
+pub list_more : (out before : List ℕ) (lists : List ListDecl) (shown : Table) (state : State) (k : ℕ) (d : ListDecl)
+    → k < length lists → length lists ≡ length shown → length lists ≡ length state → d ≡ get_or lists k d
+    → IsPlainOwn (own_at state k)
+    → out ++ list_lines (drop k lists) (drop k shown) (drop k state) ≡ before
+    → (out ++ list_line d.name (shows_in shown k)) ++ list_lines (drop (k + 1) lists) (drop (k + 1) shown) (drop (k + 1) state)
+    ≡ before
+list_more out before lists shown state k d within same many is plain whole =
     let e : k + 1 ≡ suc k = omega arith in
-    let next : list_lines (drop k lists) (drop k shown) ≡ list_line d.name (shows_in shown k) ++ list_lines (drop (k + 1) lists) (drop (k + 1) shown) = rw e (list_step lists shown k d within same is) in
-    append_assoc out (list_line d.name (shows_in shown k)) (list_lines (drop (k + 1) lists) (drop (k + 1) shown)) ∙ ap (λ l. out ++ l) (sym next) ∙ whole
+    let next : list_lines (drop k lists) (drop k shown) (drop k state)
+    ≡ list_line d.name (shows_in shown k) ++ list_lines (drop (k + 1) lists) (drop (k + 1) shown) (drop (k + 1) state) =
+    rw e (list_step lists shown state k d within same many is plain) in
+    append_assoc out (list_line d.name (shows_in shown k)) (list_lines (drop (k + 1) lists) (drop (k + 1) shown) (drop (k + 1) state))
+    ∙ ap (λ l. out ++ l) (sym next) ∙ whole
+
+-- one write-back more is written, of those that are left
+pub refused_more : (out before name : List ℕ) (count k : ℕ) → k < count
+    → out ++ refused_lines name (count - k) ≡ before
+    → (out ++ refused_lines name 1) ++ refused_lines name (count - (k + 1)) ≡ before
+refused_more out before name count k within whole =
+    let n : ℕ = count - (k + 1) in
+    let left : count - k ≡ suc n = omega arith in
+    let one : refused_lines name (suc n) ≡ refused_lines name 1 ++ refused_lines name n =
+    parted (codes "refused ") name (codes " write-back") line_feed (refused_lines name n) in
+    append_assoc out (refused_lines name 1) (refused_lines name n)
+    ∙ ap (λ l. out ++ l) (sym (ap (refused_lines name) left ∙ one)) ∙ whole
+  where
+    parted : (a b c d rest : List ℕ) → a ++ b ++ c ++ d ++ rest ≡ (a ++ b ++ c ++ d ++ []) ++ rest
+    parted a b c d rest = simp (append_assoc, append-nil) refl
+
+-- the line of one write-back that was refused, piece by piece
+pub refused_written : (out name : List ℕ)
+    → ((out ++ codes "refused ") ++ name) ++ codes " write-back\n" ≡ out ++ refused_lines name 1
+refused_written out name = pieces out (codes "refused ") name (codes " write-back") line_feed
+  where
+    pieces : (out a b c d : List ℕ) → ((out ++ a) ++ b) ++ (c ++ d) ≡ out ++ (a ++ b ++ c ++ d ++ [])
+    pieces out a b c d = simp (append_assoc, append-nil) refl
+
+-- none is left
+pub refused_all : (out before name : List ℕ) (count k : ℕ) → count ≤ k
+    → out ++ refused_lines name (count - k) ≡ before → out ≡ before
+refused_all out before name count k past whole =
+    let left : count - k ≡ 0 = omega (arith, past) in
+    sym (append-nil out) ∙ ap (λ n. out ++ refused_lines name n) (sym left) ∙ whole
 
 entry_step : (p : Plan) (told : List Telling) (order : List Actor) (replies : List (List Reply)) (from k : ℕ) (a : Actor) → k < length order → length replies ≡ length order → a ≡ get_or order k a
     → entry_lines p from (drop k order) (drop k replies) told ≡ spelled_entry p.lists from a (unwrap_or (slice_get replies k) []) ++ told_lines p.listeners (told_first from told) ++ entry_lines p (from + 1) (drop (suc k) order) (drop (suc k) replies) (told_later from told)
@@ -49,7 +113,13 @@ entry_more p told out before order replies k a within same is whole =
 
 -- the tellings of a place, one after another
 told_here : (listeners : List ListenerDecl) (place : ℕ) (t : Telling) (ts : List Telling) → t.place ≡ place → told_lines listeners (told_first place (t ∷ ts)) ≡ told_line listeners t ++ told_lines listeners (told_first place ts)
-told_here listeners place t ts e = rw (eq-eqb t.place place e) refl
+told_here listeners place t ts e =
+    rw (eq-eqb t.place place e)
+    (parted (codes "told ") (listener_name listeners t.listener) (codes " ") (event_text t.delta) line_feed
+    (refused_lines (listener_name listeners t.listener) t.write_backs) (told_lines listeners (told_first place ts)))
+  where
+    parted : (a b c d e f rest : List ℕ) → a ++ b ++ c ++ d ++ e ++ f ++ rest ≡ (a ++ b ++ c ++ d ++ e ++ f) ++ rest
+    parted a b c d e f rest = simp append_assoc refl
 
 drop_telling : (ts : List Told) (k : ℕ) (t : Told) → k < length ts → t ≡ get_or ts k t → drop k ts ≡ t ∷ drop (k + 1) ts
 drop_telling [] k t within is = absurd (omega (arith, within))

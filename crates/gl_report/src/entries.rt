@@ -2,7 +2,7 @@
 
 ghost use Rattle.std.specs.Prelude.{◌≡◌, ◌≤◌, ◌++◌, drop, length, IfOk, OnOk};
 ghost use Rattle.spec_runs.specs.Run.{run};
-ghost use Rattle.spec_reports.specs.Report.{listener_name, told_lines, told_first, told_later, entry_lines};
+ghost use Rattle.spec_reports.specs.Report.{listener_name, refused_lines, told_lines, told_first, told_later, entry_lines};
 ghost use Rattle.gl_world.specs.Told.{telling_data, tellings_of};
 ghost use Rattle.gl_report.specs.Lines.{spelled_entry, told_line};
 
@@ -75,7 +75,35 @@ fn write_telling(
     write_name(listeners, telling.listener, out)?;
     out.push_all(b" ")?;
     add_event(&telling.event, out)?;
-    out.push_all(b"\n")
+    out.push_all(b"\n")?;
+    write_refused(listeners, telling.listener, telling.write_backs, out)
+}
+
+// A line for each of so many write-backs of a listener that were refused.
+fn write_refused(
+    listeners: &[ListenerDecl],
+    listener: u32,
+    count: u32,
+    out: &mut Bytes,
+) -> Result<(), Memory>
+    ensures { OnOk result (out.new ≡ out.old ++ refused_lines (listener_name listeners.now listener) count) }
+{
+    'refused: for _ in 0..count {
+        write_one_refused(listeners, listener, out)?;
+    }
+    Ok(())
+}
+
+fn write_one_refused(
+    listeners: &[ListenerDecl],
+    listener: u32,
+    out: &mut Bytes,
+) -> Result<(), Memory>
+    ensures { OnOk result (out.new ≡ out.old ++ refused_lines (listener_name listeners.now listener) 1) }
+{
+    out.push_all(b"refused ")?;
+    write_name(listeners, listener, out)?;
+    out.push_all(b" write-back\n")
 }
 
 fn write_name(listeners: &[ListenerDecl], listener: u32, out: &mut Bytes) -> Result<(), Memory>

@@ -15,9 +15,11 @@ use gl_world::{RunName, World};
 pub fn write_lists<N: RunName>(world: &World<N>, out: &mut Bytes) -> Result<(), Memory>
     ensures { OnOk result
         (out.new ≡ out.old
-        ++ list_lines world.now.plan.lists (table_of (run world.now.plan world.now.order).state)) }
+        ++ list_lines world.now.plan.lists (table_of (run world.now.plan world.now.order).state)
+        (run world.now.plan world.now.order).state) }
 {
-    let lists = world.plan().lists();
+    let plan = world.plan();
+    let lists = plan.lists();
     for (list, decl) in lists.iter().enumerate() {
         write_list(world, list as u32, decl.name.text().bytes(), out)?;
     }

@@ -8,12 +8,12 @@ ghost use Rattle.gl_kernel.specs.Fates.{fate, edits_of};
 ghost use Rattle.gl_source.specs.Kept.{itself};
 
 use gl_delta::{CellRef, Delta};
-use gl_kernel::Edit;
+use gl_kernel::LogStep;
 use gl_value::Value;
 use std::alloc::{AllocError, Global};
 
 /// The edits of the values. It takes memory for them; kept elements cost one step for each stretch of them.
-pub(crate) fn log_of(alloc: Global, d: &Delta) -> Result<Vec<Edit<Value>>, AllocError>
+pub(crate) fn log_of(alloc: Global, d: &Delta) -> Result<Vec<LogStep<Value>>, AllocError>
     ensures { IfOk result (λ log. log.items ≡ edits_of 0 (map (fate itself) d.now.pieces)) }
 {
     let _olds = d.old_len();
@@ -27,7 +27,7 @@ pub(crate) fn log_of(alloc: Global, d: &Delta) -> Result<Vec<Edit<Value>>, Alloc
 }
 
 // The edits of one cell more. It answers the place behind it.
-fn note(log: &mut Vec<Edit<Value>>, place: usize, cell: CellRef<'_>) -> Result<usize, AllocError>
+fn note(log: &mut Vec<LogStep<Value>>, place: usize, cell: CellRef<'_>) -> Result<usize, AllocError>
     requires { place + old_len (pieces_in (cell_ref cell)) ≤ 2147483647 }
     ensures edits { OnOk result (log.new.items
         ≡ log.old.items ++ edits_of place (map (fate itself) (pieces_in (cell_ref cell.entry)))) }
@@ -36,15 +36,15 @@ fn note(log: &mut Vec<Edit<Value>>, place: usize, cell: CellRef<'_>) -> Result<u
     match cell {
         CellRef::Keep(n) => Ok(place + n),
         CellRef::Update(_old, new) => {
-            log.push(Edit::Set(place, new.copy()?))?;
+            log.push(LogStep::Set(place, new.copy()?))?;
             Ok(place + 1)
         }
         CellRef::Delete(_old) => {
-            log.push(Edit::Remove(place))?;
+            log.push(LogStep::Remove(place))?;
             Ok(place + 1)
         }
         CellRef::Insert(new) => {
-            log.push(Edit::Insert(place, new.copy()?))?;
+            log.push(LogStep::Insert(place, new.copy()?))?;
             Ok(place)
         }
     }

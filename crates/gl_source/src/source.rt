@@ -12,7 +12,7 @@ use crate::log::log_of;
 use crate::refusal::refusal;
 use crate::telling::told;
 use gl_delta::Delta;
-use gl_kernel::{Editable, ValueList, apply, take_back};
+use gl_kernel::{Editable, LogStep, ValueList, apply, take_back};
 use gl_value::{Shelf, Value, Values};
 use std::alloc::{AllocError, Global};
 use std::marker::Model;
@@ -41,7 +41,7 @@ impl Model for SourceList {
 /// What takes a source back to where it stood before a change.
 #[derive(Drop)]
 pub struct SourceUndo {
-    pub(crate) log: Vec<gl_kernel::Edit<Value>>,
+    pub(crate) log: Vec<LogStep<Value>>,
 }
 
 impl SourceList {

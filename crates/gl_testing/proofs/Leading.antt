@@ -4,7 +4,7 @@ use Rattle.std.proofs.Common.{ap, sym, ◌∙◌, subst}
 use Rattle.spec_value.specs.Tree.{Tree}
 use Rattle.spec_lists.specs.Piece.{Piece, kept, updated, deleted, inserted, turned, normal}
 use Rattle.spec_lists.specs.Leads.{LeadsFrom, applied, IsDelta}
-use Rattle.spec_lists.proofs.Leading.{leads_normal}
+use Rattle.spec_lists.proofs.Leading.{leads_back, leads_normal}
 
 -- one delta behind another leads between the lists behind one another
 side_by_side : (ps qs : List Piece) (xs us : List Tree) → LeadsFrom ps xs → LeadsFrom qs us → LeadsFrom (ps ++ qs) (xs ++ us) × (applied (ps ++ qs) (xs ++ us) ≡ applied ps xs ++ applied qs us)
@@ -27,21 +27,7 @@ row_more ps qs more xs us xs2 ys ys2 h k e f g =
     let ByOld : List Tree → Type 0 = λ zs. IsDelta (normal (ps ++ qs)) zs ys2 in
     subst ByPieces (sym e) (subst ByOld (sym f) (record { starts = plain.0; ends = to }))
 
-cons : (a b : Tree) (us vs : List Tree) → a ≡ b → us ≡ vs → a ∷ us ≡ b ∷ vs
-cons a b us vs e f = cc
-
 -- a delta leads back from the list that it ends at
-leads_back : (ps : List Piece) (xs : List Tree) → LeadsFrom ps xs → LeadsFrom (map turned ps) (applied ps xs) × (applied (map turned ps) (applied ps xs) ≡ xs)
-leads_back [] [] h = (tt, refl)
-leads_back [] (x ∷ xs) h = absurd h
-leads_back (kept ∷ ps) [] h = absurd h
-leads_back (kept ∷ ps) (x ∷ xs) h = let g = leads_back ps xs h in (g.0, ap (λ ys. x ∷ ys) g.1)
-leads_back (updated v w ∷ ps) [] h = absurd h
-leads_back (updated v w ∷ ps) (x ∷ xs) h = let g = leads_back ps xs h.1 in ((refl, g.0), cons v x _ xs (sym h.0) g.1)
-leads_back (deleted v ∷ ps) [] h = absurd h
-leads_back (deleted v ∷ ps) (x ∷ xs) h = let g = leads_back ps xs h.1 in (g.0, cons v x _ xs (sym h.0) g.1)
-leads_back (inserted w ∷ ps) xs h = let g = leads_back ps xs h in ((refl, g.0), g.1)
-
 pub to_new : (ps : List Piece) (xs ys : List Tree) → IsDelta ps xs ys → LeadsFrom (map turned ps) ys × (applied (map turned ps) ys ≡ xs)
 to_new ps xs ys h =
     let P : List Tree → Type 0 = λ zs. LeadsFrom (map turned ps) zs × (applied (map turned ps) zs ≡ xs) in

@@ -1,6 +1,6 @@
 -- Laws on the way back of a section.
 use Rattle.std.proofs.Common.{◌≡◌, ◌∙◌, List, [], ◌∷◌, ◌++◌, refl, ap, sym}
-use Rattle.gl_graph.specs.declared.retreat.GraphUndo.{GraphUndo}
+use Rattle.gl_graph.specs.declared.graph.GraphUndo.{GraphUndo}
 use Rattle.gl_graph.specs.Nodes.{numbers}
 use Rattle.gl_graph.specs.Graph.{Kept, IsGraph}
 use Rattle.gl_graph.specs.Waves.{Contents, contents, before, HaveRoomOf, IsUndo, CanRetreat}
@@ -23,7 +23,7 @@ like_on a b c h k = record {
 like_changed : (undo : GraphUndo) (a b c : Kept) → IsLike a b → IsChanged undo b c → IsChanged undo a c
 like_changed undo a b c h k = record {
   graph = contents_same_graph b a h.same k.graph;
-  is = record { back = k.is.back ∙ h.same; can = k.is.can };
+  is = record { back = k.is.back ∙ h.same; can = k.is.can; apart = k.is.apart };
   room = room_on a.nodes b.nodes c.nodes (same_numbers a b h.same) h.room k.room;
 }
 

@@ -6,8 +6,8 @@ use Rattle.gl_lines.specs.declared.plan.ListDecl.{ListDecl}
 use Rattle.gl_lines.specs.declared.plan.ListKind.{ListKind}
 use Rattle.gl_lines.specs.declared.plan.ListKind.TheVariants as kinds
 use Rattle.spec_plans.specs.Plan.{Plan}
-use Rattle.spec_runs.specs.Built.{is_built_kind, is_built}
-use Rattle.spec_runs.proofs.Suiting.{built_lists}
+use Rattle.spec_plans.specs.Built.{is_built_kind, is_built}
+use Rattle.spec_runs.proofs.Built.{built_lists}
 use Rattle.gl_graph.specs.Opening.{IsKindBuilt, AreKindsBuilt}
 
 kind_built : (kind : ListKind) → is_built_kind kind ≡ true → IsKindBuilt kind

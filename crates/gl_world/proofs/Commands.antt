@@ -2,23 +2,25 @@
 use Rattle.std.proofs.Common.{◌≡◌, ◌∙◌, ℕ, zero, suc, ◌<◌, List, [], ◌∷◌, length, refl, ap, sym, subst, arith}
 use Rattle.std.specs.Prelude.{Option, Some, None, slice_index_or}
 use Rattle.spec_value.specs.Tree.{Tree}
-use Rattle.spec_lists.specs.Piece.{Piece, identity, IsNormal, old_len, new_len}
+use Rattle.spec_lists.specs.Piece.{IsNormal, old_len, new_len}
 use Rattle.spec_lists.specs.Leads.{IsDelta}
-use Rattle.spec_lists.specs.Delta.{composed}
+use Rattle.spec_lists.specs.Delta.{Delta, no_change, composed}
 use Rattle.spec_lists.proofs.Lengths.{new_len-identity}
 use Rattle.gl_lines.specs.declared.plan.Command.{Command}
 use Rattle.gl_lines.specs.declared.reply.Reply.{Reply}
 use Rattle.gl_lines.specs.declared.reply.Reply.TheVariants.{Done}
 use Rattle.gl_delta.specs.Told.{Told}
-use Rattle.spec_states.specs.State.{State}
+use Rattle.spec_plans.specs.Plan.{origin as about}
+use Rattle.spec_states.specs.State.{State, own_at}
 use Rattle.spec_states.specs.Shown.{Table, shows_in, table_of, shown}
-use Rattle.spec_states.specs.Wave.{Deltas, delta_in, wave, wave_deltas}
+use Rattle.spec_states.specs.Wave.{Deltas, delta_in, wave, wave_deltas, command as made_by}
 use Rattle.spec_states.specs.Step.{step, unmoved}
-use Rattle.spec_states.specs.Laws.{IsOrdered, Lead}
+use Rattle.spec_states.specs.Laws.{IsSound, Lead}
 use Rattle.spec_states.proofs.Views.{length-table_of}
 use Rattle.spec_states.proofs.Waves.{step_leads}
 use Rattle.spec_runs.specs.Section.{composed_all}
 use Rattle.spec_runs.proofs.Sections.{old_len_leads, new_len_leads, composed_nothing, nothing_composed, composed_in, then_unchanged}
+use Rattle.spec_runs.proofs.Keeping.{Suits}
 use Rattle.spec_runs.proofs.Steps.{still_deltas}
 use Rattle.gl_graph.specs.Waves.{IsTold, AreTold}
 use Rattle.gl_world.specs.Joined.{IsJoined, AreJoined, Meet, AreMeeting}
@@ -27,7 +29,7 @@ use Rattle.gl_world.specs.Section.{IsDeltaSofar, AreDeltas, Reach, GoOn}
 -- ---- a command that changes something
 
 pub moved_state : (limit : ℕ) (s : State) (command : Command) → unmoved limit s command ≡ None
-    → (step limit s command).state ≡ wave s command
+    → (step limit s command).state ≡ wave s (made_by command)
 moved_state limit s command e = rw e refl
 
 pub moved_reply : (limit : ℕ) (s : State) (command : Command) → unmoved limit s command ≡ None
@@ -35,7 +37,7 @@ pub moved_reply : (limit : ℕ) (s : State) (command : Command) → unmoved limi
 moved_reply limit s command e = rw e refl
 
 pub moved_deltas : (limit : ℕ) (s : State) (command : Command) → unmoved limit s command ≡ None
-    → (step limit s command).deltas ≡ wave_deltas s command
+    → (step limit s command).deltas ≡ wave_deltas s (made_by command)
 moved_deltas limit s command e = rw e refl
 
 -- ---- its deltas
@@ -49,7 +51,7 @@ deltas_still limit s command reply told e start deltas lead are =
     subst (λ ds. AreDeltas start ds told) (sym same) are
 
 -- what there is of a list, joined with what is told of it
-joined_one : (p q r : List Piece) (xs ys zs : List Tree) (a b now : Option Told) → IsDelta p xs ys → IsDelta q ys zs
+joined_one : (p q r : Delta) (xs ys zs : List Tree) (a b now : Option Told) → IsDelta p xs ys → IsDelta q ys zs
     → IsNormal p → IsNormal q
     → r ≡ composed p q → IsDeltaSofar (length xs) p a → IsTold (length ys) q b → IsJoined a b now
     → IsDeltaSofar (length xs) r now
@@ -60,17 +62,18 @@ joined_one p q r xs ys zs None (Some e) now dp dq np nq is ha hb j =
     let len : length xs ≡ length ys =
     sym (new_len-identity (length xs)) ∙ ap new_len (sym ha) ∙ new_len_leads p xs ys dp in
     let same : r ≡ q =
-    is ∙ ap (λ d. composed d q) (ha ∙ ap identity len) ∙ nothing_composed q ys zs nq dq in
+    is ∙ ap (λ d. composed d q) (ha ∙ ap no_change len) ∙ nothing_composed q ys zs nq dq in
     subst (IsDeltaSofar (length xs) r) (sym j) (hb.0 ∙ sym same)
 joined_one p q r xs ys zs (Some d) (Some e) None dp dq np nq is ha hb j = absurd j
 joined_one p q r xs ys zs (Some d) (Some e) (Some m) dp dq np nq is ha hb j =
     j ∙ ap (λ x. composed x e.pieces) ha ∙ ap (composed p) hb.0 ∙ sym is
 
 -- one that changes something joins what is told of the lists
-pub deltas_joined : (limit : ℕ) (s : State) (command : Command) (old next new : List (Option Told)) → IsOrdered s
+pub deltas_joined : (limit : ℕ) (s : State) (command : Command) (old next new : List (Option Told)) → IsSound s
+    → Suits command (own_at s (about command))
     → unmoved limit s command ≡ None → AreTold s command next → AreJoined old next new
     → GoOn limit s command old new
-deltas_joined limit s command old next new ordered e told joined start deltas lead are = record {
+deltas_joined limit s command old next new sound suits e told joined start deltas lead are = record {
   long = joined.long ∙ are.long;
   each = λ list within. one list within;
 }
@@ -79,7 +82,7 @@ deltas_joined limit s command old next new ordered e told joined start deltas le
     later = (step limit s command).deltas
 
     led : Lead later (table_of s) (table_of (step limit s command).state)
-    led = step_leads limit s command ordered
+    led = step_leads limit s command sound suits.attaches suits.takes
 
     one : (list : ℕ) → list < length start
         → IsDeltaSofar (length (shows_in start list)) (delta_in (composed_all deltas later) list)
@@ -87,7 +90,7 @@ deltas_joined limit s command old next new ordered e told joined start deltas le
     one list within =
         let middle : list < length (table_of s) = omega (arith, within, lead.same) in
         let there : list < length s = omega (arith, middle, length-table_of s) in
-        let q : delta_in (wave_deltas s command) list ≡ delta_in later list =
+        let q : delta_in (wave_deltas s (made_by command)) list ≡ delta_in later list =
         ap (λ ds. delta_in ds list) (sym (moved_deltas limit s command e)) in
         joined_one (delta_in deltas list) (delta_in later list) (delta_in (composed_all deltas later) list)
         (shows_in start list) (shown s list) (shown (step limit s command).state list)
@@ -121,20 +124,21 @@ reach_of start deltas told s lead are = record {
       (lead.each list within);
 }
 
-meets : (q : List Piece) (ys zs : List Tree) (a b : Option Told) → IsDelta q ys zs
+meets : (q : Delta) (ys zs : List Tree) (a b : Option Told) → IsDelta q ys zs
     → ((d : Told) → a ≡ Some d → new_len d.pieces ≡ length ys) → IsTold (length ys) q b → Meet a b
 meets q ys zs None b dq reach told = tt
 meets q ys zs (Some d) None dq reach told = tt
 meets q ys zs (Some d) (Some e) dq reach told = ap old_len told.0 ∙ old_len_leads q ys zs dq ∙ sym (reach d refl)
 
 -- and those of a command lead on from there
-pub are_meeting : (limit : ℕ) (s : State) (command : Command) (old next : List (Option Told)) → IsOrdered s
-    → unmoved limit s command ≡ None → Reach old s → AreTold s command next → AreMeeting old next
-are_meeting limit s command old next ordered e reach told list within =
+pub are_meeting : (limit : ℕ) (s : State) (command : Command) (old next : List (Option Told)) → IsSound s
+    → Suits command (own_at s (about command)) → unmoved limit s command ≡ None → Reach old s
+    → AreTold s command next → AreMeeting old next
+are_meeting limit s command old next sound suits e reach told list within =
     let there : list < length s = omega (arith, within, reach.long) in
     let led : Lead (step limit s command).deltas (table_of s) (table_of (step limit s command).state) =
-    step_leads limit s command ordered in
-    let q : delta_in (wave_deltas s command) list ≡ delta_in (step limit s command).deltas list =
+    step_leads limit s command sound suits.attaches suits.takes in
+    let q : delta_in (wave_deltas s (made_by command)) list ≡ delta_in (step limit s command).deltas list =
     ap (λ ds. delta_in ds list) (sym (moved_deltas limit s command e)) in
     meets (delta_in (step limit s command).deltas list) (shown s list) (shown (step limit s command).state list)
     (slice_index_or old list None) (slice_index_or next list None)

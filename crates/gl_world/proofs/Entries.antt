@@ -1,33 +1,74 @@
 -- A world with one entry more.
-use Rattle.std.proofs.Common.{◌≡◌, ◌≢◌, ◌∙◌, ℕ, ◌+◌, ◌<◌, ◌++◌, List, [], ◌∷◌, length, refl, ap, sym, arith, inl, inr, subst, slice_set, length-set, get_or-set_same, get_or-set_other, eq-eqb}
-use Rattle.std.specs.Prelude.{Option, slice_index}
+use Rattle.std.proofs.Common.{◌≡◌, ◌≢◌, ◌∙◌, ℕ, ◌+◌, ◌<◌, ◌++◌, true, List, [], ◌∷◌, length, refl, ap, sym, arith, inl, inr, subst, slice_set, length-set, get_or-set_same, get_or-set_other, eq-eqb, append_assoc, append-nil}
+use Rattle.std.specs.Prelude.{Option, Some, None, slice_index, All, nat_lt}
 use Rattle.std.specs.List.{AllByRecursion}
 use Rattle.std.proofs.lemmas.Bool.{cases_eq, ne_eqb}
+use Rattle.std.proofs.lemmas.Bool.Decides.{nat_tests}
 use Rattle.gl_outside.specs.declared.gate.Actor.{Actor}
 use Rattle.gl_outside.specs.declared.gate.Actor.TheVariants.{Writer}
 use Rattle.gl_lines.specs.declared.plan.Command.{Command}
 use Rattle.gl_lines.specs.declared.reply.Reply.{Reply}
 use Rattle.gl_delta.specs.Told.{Told}
-use Rattle.spec_plans.specs.Plan.{Plan, commands_of}
-use Rattle.spec_plans.specs.Cycles.{IsAcyclic}
-use Rattle.spec_states.specs.State.{State}
+use Rattle.spec_plans.specs.Plan.{Plan, commands_of, sections_of}
+use Rattle.spec_plans.specs.Built.{is_built}
+use Rattle.spec_states.specs.State.{State, own_at}
 use Rattle.spec_states.specs.Shown.{table_of}
+use Rattle.spec_states.specs.Laws.{IsSound}
 use Rattle.spec_states.proofs.Views.{length-table_of}
 use Rattle.spec_runs.specs.Kinds.{IsFor}
 use Rattle.spec_runs.specs.Section.{state_after, replies_to, section_deltas}
-use Rattle.spec_runs.specs.Telling.{Telling, tellings}
-use Rattle.spec_runs.specs.Run.{run, taken_by}
+use Rattle.spec_runs.specs.Telling.{Telling as TellingData, tellings, listener_turns}
+use Rattle.spec_runs.specs.Entry.{taken_by}
+use Rattle.spec_runs.specs.Fits.{Fits, BadPlace, Reason, reason_at, bad_place_from}
+use Rattle.spec_runs.specs.Run.{run}
 use Rattle.spec_runs.proofs.Runs.{state_more, replies_more, told_more, taken_more}
-use Rattle.spec_runs.proofs.Keeping.{length-state}
-use Rattle.spec_runs.proofs.Ordered.{heard_within, well_formed_listeners, listener_turns_below}
+use Rattle.spec_runs.proofs.Keeping.{length-state, within_entry_kinds}
+use Rattle.spec_runs.proofs.Ordered.{run_sound, heard_within, well_formed_listeners, listener_turns_below}
 use Rattle.spec_runs.proofs.Suiting.{commands_suit}
+use Rattle.spec_runs.proofs.Built.{built_state_more}
 use Rattle.gl_graph.specs.Graph.{Kept, state_of}
 use Rattle.gl_graph.specs.Waves.{Contents, contents}
 use Rattle.gl_graph.proofs.Going.{contents_same_state}
-use Rattle.gl_world.specs.Told.{all_pieces, told_all}
+use Rattle.gl_world.specs.declared.telling.Telling.{Telling}
+use Rattle.gl_world.specs.Told.{tellings_of, all_pieces, told_all, IsFresh}
 use Rattle.gl_world.specs.Section.{AreDeltas}
 use Rattle.gl_world.specs.World.{IsWorld}
 use Rattle.gl_world.proofs.Tellings.{told_same}
+
+-- ---- orders that fit
+
+none_some : {X : Type 0} {x : X} → Some x ≡ None → ⊥
+none_some e = absurd cc
+
+fits_behind : (p : Plan) (before rest : List Actor) (a : Actor) → bad_place_from p before rest ≡ None
+    → reason_at p (before ++ rest) a ≡ None → bad_place_from p before (rest ++ a ∷ []) ≡ None
+fits_behind p before [] a fits none =
+    let here : reason_at p before a ≡ None = subst (λ o. reason_at p o a ≡ None) (append-nil before) none in
+    rw here refl
+fits_behind p before (b ∷ rest) a fits none =
+    by_reason (reason_at p before b) refl
+    (λ left. fits_behind p (before ++ b ∷ []) rest a left
+    (subst (λ o. reason_at p o a ≡ None) (sym (append_assoc before (b ∷ []) rest)) none))
+  where
+    by_reason : (r : Option Reason) → reason_at p before b ≡ r
+        → (bad_place_from p (before ++ b ∷ []) rest ≡ None → bad_place_from p (before ++ b ∷ []) (rest ++ a ∷ []) ≡ None)
+        → bad_place_from p before (b ∷ (rest ++ a ∷ [])) ≡ None
+    by_reason (Some reason) e later = absurd (none_some (rw e at fits))
+    by_reason None e later = rw e (later (rw e at fits))
+
+pub fits_more : (p : Plan) (order : List Actor) (a : Actor) → Fits p order → reason_at p order a ≡ None
+    → Fits p (order ++ a ∷ [])
+fits_more p order a fits none = fits_behind p [] order a fits none
+
+-- a writer that has a section left may take it
+pub writer_fits : (p : Plan) (order : List Actor) (w : ℕ) → w < length p.writers
+    → taken_by w order < length (sections_of p w) → reason_at p order (Writer w) ≡ None
+writer_fits p order w there left =
+    let known : nat_lt w (length p.writers) ≡ true = grind (arith, nat_tests) in
+    let some : nat_lt (taken_by w order) (length (sections_of p w)) ≡ true = grind (arith, nat_tests) in
+    rw (known, some) refl
+
+-- ---- the counters
 
 -- the counters once a writer took one section more
 counted : (order : List Actor) (taken : List ℕ) (w k : ℕ) → w < length taken → slice_index taken w ≡ taken_by w order
@@ -47,85 +88,101 @@ counted order taken w k there before here = elim (cases_eq k w) [
     other : k ≢ w → taken_by k order + taken_by k (Writer w ∷ []) ≡ taken_by k order
     other ne = rw (ne_eqb w k (λ e. ne (sym e))) (omega arith)
 
+-- ---- entries
+
+-- what a world keeps is one thing, so that entries speak of it
+pub record Inside : Type 0 where
+  pub plan : Plan
+  pub order : List Actor
+  pub graph : Kept
+  pub replies : List (List Reply)
+  pub told : List Telling
+  pub taken : List ℕ
+
+abbrev pub Stands : Inside → Type 0
+Stands i = IsWorld i.plan i.order i.graph i.replies i.told i.taken
+
 -- a section of a writer was taken, and written down
-pub world_more : (p : Plan) (order : List Actor) (old new : Kept) (replies : List (List Reply)) (mine : List Reply)
-    (turn : List ℕ) (told more : List Telling) (taken : List ℕ) (w section : ℕ)
-    → IsWorld p order old replies turn told taken → w < length p.writers → section ≡ taken_by w order
-    → new.limit ≡ old.limit → state_of new ≡ state_after old.limit (state_of old) (commands_of p w section)
-    → mine ≡ replies_to old.limit (state_of old) (commands_of p w section)
-    → more ≡ tellings p (length order) (section_deltas old.limit (state_of old) (commands_of p w section))
-    → IsWorld p (order ++ Writer w ∷ []) new (replies ++ mine ∷ []) turn (told ++ more)
-    (slice_set taken w (section + 1))
-world_more p order old new replies mine turn told more taken w section world there section_is limit state_is mine_is
-    more_is = record {
-      opens = world.opens;
-      state = state_is ∙ rw (section_is, world.limit, world.state) (sym (state_more p order w));
+pub world_more : (i : Inside) (new : Kept) (mine : List Reply) (all : List Telling) (more : List TellingData)
+    (w section : ℕ)
+    → Stands i → w < length i.plan.writers → section ≡ taken_by w i.order
+    → section < length (sections_of i.plan w)
+    → new.limit ≡ i.graph.limit
+    → state_of new ≡ state_after i.graph.limit (state_of i.graph) (commands_of i.plan w section)
+    → mine ≡ replies_to i.graph.limit (state_of i.graph) (commands_of i.plan w section)
+    → tellings_of all ≡ tellings_of i.told ++ more
+    → more ≡ tellings i.plan (length i.order) (section_deltas i.graph.limit (state_of i.graph) (commands_of i.plan w section))
+    → All IsFresh all
+    → IsWorld i.plan (i.order ++ Writer w ∷ []) new (i.replies ++ mine ∷ []) all (slice_set i.taken w (section + 1))
+world_more i new mine all more w section world there section_is left limit state_is mine_is all_is more_is fresh =
+    let p : Plan = i.plan in
+    let order : List Actor = i.order in
+    record {
+      whole = world.whole;
+      built = world.built;
+      fits = fits_more p order (Writer w) world.fits
+          (writer_fits p order w there (subst (λ n. n < length (sections_of p w)) section_is left));
+      state = state_is ∙ rw (section_is, world.limit, world.state) (sym (built_state_more p order w world.built));
       limit = limit ∙ world.limit;
-      answers = rw (mine_is, section_is, world.limit, world.state, world.answers) (sym (replies_more p order w));
-      turns = world.turns;
-      tellings = ap (λ ts. ts ++ more) world.tellings
+      answers = rw (mine_is, section_is, world.limit, world.state, world.answers) (sym (replies_more p order (Writer w)));
+      tellings = all_is ∙ ap (λ ts. ts ++ more) world.tellings
           ∙ ap (λ ts. (run p order).told ++ ts) (more_is ∙ rw (section_is, world.limit, world.state) refl)
-          ∙ sym (told_more p order w);
-      writers = length-set taken w (section + 1) ∙ world.writers;
-      sections = λ k within. rw section_is (counted order taken w k (omega (arith, there, world.writers))
+          ∙ sym (told_more p order (Writer w));
+      fresh = fresh;
+      writers = length-set i.taken w (section + 1) ∙ world.writers;
+      sections = λ k within. rw section_is (counted order i.taken w k (omega (arith, there, world.writers))
           (world.sections w there) (world.sections k within));
     }
 
 -- a section was taken back
-pub world_back : (p : Plan) (order : List Actor) (old new : Kept) (replies : List (List Reply)) (turn : List ℕ)
-    (told : List Telling) (taken : List ℕ) → IsWorld p order old replies turn told taken → contents new ≡ contents old
-    → IsWorld p order new replies turn told taken
-world_back p order old new replies turn told taken world same = record {
-  opens = world.opens;
-  state = contents_same_state new old same ∙ world.state;
+pub world_back : (i : Inside) (new : Kept) → Stands i → contents new ≡ contents i.graph
+    → IsWorld i.plan i.order new i.replies i.told i.taken
+world_back i new world same = record {
+  whole = world.whole;
+  built = world.built;
+  fits = world.fits;
+  state = contents_same_state new i.graph same ∙ world.state;
   limit = ap (λ (c : Contents). c.limit) same ∙ world.limit;
   answers = world.answers;
-  turns = world.turns;
   tellings = world.tellings;
+  fresh = world.fresh;
   writers = world.writers;
   sections = world.sections;
 }
 
 -- ---- what a section needs
 
-pub world_lists : (p : Plan) (order : List Actor) (graph : Kept) (replies : List (List Reply)) (turn : List ℕ)
-    (told : List Telling) (taken : List ℕ) → IsWorld p order graph replies turn told taken
-    → length (state_of graph) ≡ length p.lists
-world_lists p order graph replies turn told taken world = ap length world.state ∙ length-state p order
+pub world_lists : (i : Inside) → Stands i → length (state_of i.graph) ≡ length i.plan.lists
+world_lists i world = ap length world.state ∙ length-state i.plan i.order
 
-pub world_suits : (p : Plan) (order : List Actor) (graph : Kept) (replies : List (List Reply)) (turn : List ℕ)
-    (told : List Telling) (taken : List ℕ) (w section : ℕ) → IsWorld p order graph replies turn told taken
-    → AllByRecursion (λ c. IsFor c (state_of graph)) (commands_of p w section)
-world_suits p order graph replies turn told taken w section world =
-    subst (λ s. AllByRecursion (λ c. IsFor c s) (commands_of p w section)) (sym world.state)
-    (commands_suit p order [] w section world.opens.formed world.opens.built)
+pub world_sound : (i : Inside) → Stands i → IsSound (state_of i.graph)
+world_sound i world = subst IsSound (sym world.state) (run_sound i.plan i.order world.whole.formed world.whole.acyclic)
+
+pub world_suits : (i : Inside) (w section : ℕ) → Stands i
+    → AllByRecursion (λ c. IsFor c (state_of i.graph)) (commands_of i.plan w section)
+world_suits i w section world =
+    subst (λ s. AllByRecursion (λ c. IsFor c s) (commands_of i.plan w section)) (sym world.state)
+    (commands_suit i.plan i.order [] w section world.whole.formed)
 
 -- ---- what writing it down needs
 
-pub world_heard : (p : Plan) (order : List Actor) (graph : Kept) (replies : List (List Reply)) (turn : List ℕ)
-    (told : List Telling) (taken : List ℕ) → IsWorld p order graph replies turn told taken
-    → AllByRecursion (λ d. d.list < length (table_of (state_of graph))) p.listeners
-world_heard p order graph replies turn told taken world =
-    subst (λ n. AllByRecursion (λ d. d.list < n) p.listeners)
-    (sym (length-table_of (state_of graph) ∙ world_lists p order graph replies turn told taken world))
-    (heard_within p world.opens.formed)
+pub world_heard : (i : Inside) → Stands i
+    → AllByRecursion (λ d. d.list < length (table_of (state_of i.graph))) i.plan.listeners
+world_heard i world =
+    subst (λ n. AllByRecursion (λ d. d.list < n) i.plan.listeners)
+    (sym (length-table_of (state_of i.graph) ∙ world_lists i world)) (heard_within i.plan world.whole.formed)
 
-pub world_turns : (p : Plan) (order : List Actor) (graph : Kept) (replies : List (List Reply)) (turn : List ℕ)
-    (told : List Telling) (taken : List ℕ) → IsAcyclic p → IsWorld p order graph replies turn told taken
-    → AllByRecursion (λ k. k < length p.listeners) turn
-world_turns p order graph replies turn told taken acyclic world =
-    subst (AllByRecursion (λ k. k < length p.listeners)) (sym world.turns)
-    (listener_turns_below p (well_formed_listeners p world.opens.formed acyclic))
+pub world_turns : (i : Inside) → Stands i
+    → AllByRecursion (λ k. k < length i.plan.listeners) (listener_turns i.plan)
+world_turns i world =
+    listener_turns_below i.plan (well_formed_listeners i.plan world.whole.formed world.whole.acyclic)
 
 -- what was told is what the definitions say
-pub world_told : (p : Plan) (order : List Actor) (graph : Kept) (replies : List (List Reply)) (turn : List ℕ)
-    (told : List Telling) (taken : List ℕ) (commands : List Command) (deltas : List (Option Told))
-    → IsWorld p order graph replies turn told taken
-    → AreDeltas (table_of (state_of graph)) (section_deltas graph.limit (state_of graph) commands) deltas
-    → told_all p.listeners (length order) (all_pieces deltas) turn
-    ≡ tellings p (length order) (section_deltas graph.limit (state_of graph) commands)
-world_told p order graph replies turn told taken commands deltas world are =
-    let s : State = state_of graph in
-    told_same p.listeners (length order) (table_of s) (section_deltas graph.limit s commands) deltas turn are
-    (world_heard p order graph replies turn told taken world)
-    ∙ ap (told_all p.listeners (length order) (section_deltas graph.limit s commands)) world.turns
+pub world_told : (i : Inside) (commands : List Command) (deltas : List (Option Told)) → Stands i
+    → AreDeltas (table_of (state_of i.graph)) (section_deltas i.graph.limit (state_of i.graph) commands) deltas
+    → told_all i.plan.listeners (length i.order) (all_pieces deltas) (listener_turns i.plan)
+    ≡ tellings i.plan (length i.order) (section_deltas i.graph.limit (state_of i.graph) commands)
+world_told i commands deltas world are =
+    let s : State = state_of i.graph in
+    told_same i.plan.listeners (length i.order) (table_of s) (section_deltas i.graph.limit s commands) deltas
+    (listener_turns i.plan) are (world_heard i world)

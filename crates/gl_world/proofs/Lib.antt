@@ -1,7 +1,6 @@
 pub mod Suiting
 pub mod Backs
 pub mod Showing
-pub mod Edges
 pub mod Joining
 pub mod Commands
 pub mod Sections

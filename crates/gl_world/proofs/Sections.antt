@@ -10,16 +10,16 @@ use Rattle.spec_states.specs.State.{State}
 use Rattle.spec_states.specs.Shown.{shows_in, table_of}
 use Rattle.spec_states.specs.Wave.{delta_in, unchanged}
 use Rattle.spec_states.specs.Step.{step}
-use Rattle.spec_states.specs.Laws.{IsOrdered, Lead}
+use Rattle.spec_states.specs.Laws.{IsSound, Lead}
 use Rattle.spec_states.proofs.Views.{length-table_of}
 use Rattle.spec_states.proofs.Waves.{unchanged_at}
 use Rattle.spec_runs.specs.Kinds.{IsFor}
 use Rattle.spec_runs.specs.Section.{state_after, replies_to, section_deltas, composed_all}
-use Rattle.spec_runs.proofs.Sections.{section_leads}
+use Rattle.spec_runs.proofs.Sections.{section_leads, after_sound}
 use Rattle.spec_runs.proofs.Steps.{state_push, replies_push, deltas_push}
 use Rattle.spec_runs.proofs.Keeping.{after_keeps}
-use Rattle.spec_runs.proofs.Suiting.{for_kept}
-use Rattle.gl_graph.specs.declared.retreat.GraphUndo.{GraphUndo}
+use Rattle.spec_runs.proofs.Suiting.{for_kept, all_suit}
+use Rattle.gl_graph.specs.declared.graph.GraphUndo.{GraphUndo}
 use Rattle.gl_graph.specs.Graph.{Kept, state_of}
 use Rattle.gl_world.specs.Back.{Leads, GoesOn}
 use Rattle.gl_world.specs.Section.{IsDeltaSofar, AreDeltas, Reach, GoOn}
@@ -62,13 +62,13 @@ taken_none start replies told undos lists none is empty many = record {
 -- one more
 pub taken_more : (start : Kept) (commands all : List Command) (command : Command) (now next : Kept)
     (replies more : List Reply)
-    (told after : List (Option Told)) (undos back : List GraphUndo) → IsOrdered (state_of start)
-    → AreTaken start commands now replies told undos → all ≡ commands ++ command ∷ []
+    (told after : List (Option Told)) (undos back : List GraphUndo) → IsSound (state_of start)
+    → AllByRecursion (λ c. IsFor c (state_of start)) commands → AreTaken start commands now replies told undos → all ≡ commands ++ command ∷ []
     → next.limit ≡ now.limit → state_of next ≡ (step now.limit (state_of now) command).state
     → more ≡ replies ++ (step now.limit (state_of now) command).reply ∷ []
     → GoOn now.limit (state_of now) command told after → GoesOn undos now back next
     → AreTaken start all next more after back
-taken_more start commands all command now next replies more told after undos back ordered h all_are limit state reply
+taken_more start commands all command now next replies more told after undos back sound suits h all_are limit state reply
     go on =
     subst (λ cs. AreTaken start cs next more after back) (sym all_are) taken
   where
@@ -83,7 +83,7 @@ taken_more start commands all command now next replies more told after undos bac
 
     lead : Lead (section_deltas start.limit s commands) (table_of s) (table_of (state_of now))
     lead = subst (λ r. Lead (section_deltas start.limit s commands) (table_of s) (table_of r)) (sym h.state)
-        (section_leads start.limit s commands ordered)
+        (section_leads start.limit s commands sound (all_suit s commands suits))
 
     deltas : section_deltas start.limit s (commands ++ command ∷ [])
         ≡ composed_all (section_deltas start.limit s commands) (step now.limit (state_of now) command).deltas
@@ -105,13 +105,29 @@ taken_more start commands all command now next replies more told after undos bac
 -- what the next command needs
 pub taken_reach : (start : Kept) (commands : List Command) (now : Kept) (replies : List Reply)
     (told : List (Option Told))
-    (undos : List GraphUndo) → IsOrdered (state_of start) → AreTaken start commands now replies told undos
-    → Reach told (state_of now)
-taken_reach start commands now replies told undos ordered h =
+    (undos : List GraphUndo) → IsSound (state_of start) → AllByRecursion (λ c. IsFor c (state_of start)) commands
+    → AreTaken start commands now replies told undos → Reach told (state_of now)
+taken_reach start commands now replies told undos sound suits h =
     let s : State = state_of start in
     reach_of (table_of s) (section_deltas start.limit s commands) told (state_of now)
     (subst (λ r. Lead (section_deltas start.limit s commands) (table_of s) (table_of r)) (sym h.state)
-    (section_leads start.limit s commands ordered)) h.told_are
+    (section_leads start.limit s commands sound (all_suit s commands suits))) h.told_are
+
+-- the state stays sound
+pub taken_sound : (start : Kept) (commands : List Command) (now : Kept) (replies : List Reply)
+    (told : List (Option Told)) (undos : List GraphUndo) → IsSound (state_of start)
+    → AllByRecursion (λ c. IsFor c (state_of start)) commands → AreTaken start commands now replies told undos
+    → IsSound (state_of now)
+taken_sound start commands now replies told undos sound suits h =
+    subst IsSound (sym h.state)
+    (after_sound start.limit (state_of start) commands sound (all_suit (state_of start) commands suits))
+
+-- what all commands have, those before an index have
+pub all_before : {X : Type 0} (P : X → Type 0) (xs : List X) (k : ℕ) → AllByRecursion P xs → AllByRecursion P (take k xs)
+all_before P [] zero h = tt
+all_before P [] (suc k) h = tt
+all_before P (x ∷ xs) zero h = tt
+all_before P (x ∷ xs) (suc k) h = (h.0, all_before P xs k h.1)
 
 pub taken_for : (start : Kept) (commands : List Command) (command : Command) (now : Kept) (replies : List Reply)
     (told : List (Option Told)) (undos : List GraphUndo) → AreTaken start commands now replies told undos

@@ -1,6 +1,6 @@
 -- The way back of a section, change by change.
 use Rattle.std.specs.Prelude.{◌≡◌, List, [], ◌∷◌}
-use Rattle.gl_graph.specs.declared.retreat.GraphUndo.{GraphUndo}
+use Rattle.gl_graph.specs.declared.graph.GraphUndo.{GraphUndo}
 use Rattle.gl_graph.specs.Graph.{Kept, IsGraph}
 use Rattle.gl_graph.specs.Waves.{contents, HaveRoomOf, IsUndo}
 

@@ -2,7 +2,6 @@ pub mod History
 pub mod Told
 pub mod World
 pub mod Next
-pub mod Turns
 pub mod Back
 pub mod Joined
 pub mod Section

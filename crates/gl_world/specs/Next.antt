@@ -2,7 +2,7 @@
 use Rattle.std.specs.Prelude.{◌≡◌, ◌<◌, ◌≤◌, ℕ, length}
 use Rattle.gl_outside.specs.declared.gate.Actor.TheVariants.{Writer}
 use Rattle.spec_plans.specs.Plan.{sections_of}
-use Rattle.spec_runs.specs.Run.{taken_by}
+use Rattle.spec_runs.specs.Entry.{taken_by}
 use Rattle.gl_world.specs.History.{History, with_entry}
 use Rattle.gl_world.specs.declared.next.Next.{Next}
 use Rattle.gl_world.specs.declared.next.Next.TheVariants.{Some, None}

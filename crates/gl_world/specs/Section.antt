@@ -1,6 +1,7 @@
 -- What the commands of a section have come to.
 use Rattle.std.specs.Prelude.{◌≡◌, ◌<◌, ℕ, List, length, slice_index_or, Option, Some, None}
-use Rattle.spec_lists.specs.Piece.{Piece, identity, new_len}
+use Rattle.spec_lists.specs.Piece.{new_len}
+use Rattle.spec_lists.specs.Delta.{Delta, no_change}
 use Rattle.gl_lines.specs.declared.plan.Command.{Command}
 use Rattle.gl_delta.specs.Told.{Told}
 use Rattle.spec_states.specs.State.{State}
@@ -11,9 +12,9 @@ use Rattle.spec_states.specs.Laws.{Lead}
 use Rattle.spec_runs.specs.Section.{composed_all}
 
 -- the delta of a list of so many elements, or nothing where that is the identity
-abbrev pub IsDeltaSofar : ℕ → List Piece → Option Told → Type 0
-IsDeltaSofar len pieces None = pieces ≡ identity len
-IsDeltaSofar len pieces (Some d) = d.pieces ≡ pieces
+abbrev pub IsDeltaSofar : ℕ → Delta → Option Told → Type 0
+IsDeltaSofar len delta None = delta ≡ no_change len
+IsDeltaSofar len delta (Some d) = d.pieces ≡ delta
 
 -- the delta of each list, where a table says what they showed before
 pub record AreDeltas (start : Table) (deltas : Deltas) (told : List (Option Told)) : Type 0 where

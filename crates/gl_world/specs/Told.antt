@@ -1,21 +1,30 @@
 -- The tellings of a world, as the definitions have them.
-use Rattle.std.specs.Prelude.{ℕ, List, [], map, flat_map, Option, Some, None}
-use Rattle.spec_lists.specs.Piece.{Piece}
+use Rattle.std.specs.Prelude.{◌≡◌, ℕ, List, [], map, flat_map, Option, Some, None}
+use Rattle.spec_lists.specs.Delta.{Delta}
 use Rattle.gl_lines.specs.declared.plan.ListenerDecl.{ListenerDecl}
 use Rattle.gl_delta.specs.Told.{Told}
 use Rattle.spec_states.specs.Wave.{Deltas}
 use Rattle.spec_runs.specs.Telling.{Telling as TellingData, told_one}
 use Rattle.gl_world.specs.declared.telling.Telling.{Telling}
 
--- who was told, where, and the delta
+-- who was told, where, the delta, and how often it was refused to write back
 abbrev pub telling_data : Telling → TellingData
-telling_data t = record { listener = t.listener; place = t.place; delta = t.event.pieces }
+telling_data t = record {
+  listener = t.listener;
+  place = t.place;
+  delta = t.event.pieces;
+  write_backs = t.write_backs;
+}
 
 abbrev pub tellings_of : List Telling → List TellingData
 tellings_of ts = map telling_data ts
 
+-- none of the changes of its event has been given yet
+abbrev pub IsFresh : Telling → Type 0
+IsFresh t = t.event.given ≡ 0
+
 -- the pieces of a delta that is there; without one there are none
-abbrev pub pieces_of : Option Told → List Piece
+abbrev pub pieces_of : Option Told → Delta
 pieces_of None = []
 pieces_of (Some d) = d.pieces
 

@@ -2,6 +2,7 @@
 
 ghost use Rattle.std.specs.Prelude.{◌≡◌, ◌<◌, length, IfOk, OnOk};
 ghost use Rattle.spec_states.specs.Step.{step};
+ghost use Rattle.spec_states.specs.Laws.{IsSound};
 ghost use Rattle.spec_runs.specs.Kinds.{IsFor, IsChange};
 ghost use Rattle.gl_graph.specs.Graph.{state_of};
 ghost use Rattle.gl_world.specs.Back.{GoesOn};
@@ -29,6 +30,7 @@ pub(crate) fn take<L: Ledger>(
     steps: &mut Steps<L>,
 ) -> Result<Reply, Memory>
     requires lists { lists ≡ length (state_of graph.old) }
+    requires sound { IsSound (state_of graph.old) }
     requires suits { IsFor command.now (state_of graph.old) }
     requires deltas { Reach deltas.old (state_of graph.old) }
     ensures limit { graph.new.limit ≡ graph.old.limit }
@@ -57,6 +59,7 @@ fn change<L: Ledger>(
 ) -> Result<Reply, Memory>
     requires change { IsChange command.now }
     requires lists { lists ≡ length (state_of graph.old) }
+    requires sound { IsSound (state_of graph.old) }
     requires suits { IsFor command.now (state_of graph.old) }
     requires deltas { Reach deltas.old (state_of graph.old) }
     ensures limit { graph.new.limit ≡ graph.old.limit }

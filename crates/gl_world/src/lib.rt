@@ -11,7 +11,6 @@ mod next;
 mod section;
 mod show;
 mod telling;
-mod turns;
 mod world;
 
 pub use gl_event::Event;

@@ -1,8 +1,8 @@
 //! What the entries so far have left to read.
 
-ghost use Rattle.std.specs.Prelude.{◌≡◌, ◌<◌, ◌++◌, ◌∷◌, [], length, OnOk, OnErr};
+ghost use Rattle.std.specs.Prelude.{◌≡◌, ◌<◌, ◌++◌, ◌∷◌, [], length, All, OnOk, OnErr};
 ghost use Rattle.std.specs.List.{AllByRecursion};
-ghost use Rattle.gl_world.specs.Told.{tellings_of, told_all, all_pieces};
+ghost use Rattle.gl_world.specs.Told.{tellings_of, told_all, all_pieces, IsFresh};
 
 use crate::telling::{Telling, tellings};
 use gl_delta::Deltas;
@@ -51,6 +51,7 @@ impl Log {
         ensures replies { OnOk result (self.new.replies ≡ self.old.replies ++ replies ∷ []) }
         ensures told { OnOk result (tellings_of self.new.told.items ≡ tellings_of self.old.told.items
             ++ told_all listeners.now (length self.old.order.items) (all_pieces deltas.now) turn.now) }
+        ensures fresh { All IsFresh self.old.told.items → OnOk result (All IsFresh self.new.told.items) }
         ensures same_order { OnErr result (self.new.order.items ≡ self.old.order.items) }
         ensures same_replies { OnErr result (self.new.replies ≡ self.old.replies) }
         ensures same_told { OnErr result (self.new.told.items ≡ self.old.told.items) }

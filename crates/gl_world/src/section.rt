@@ -4,6 +4,7 @@ ghost use Rattle.std.specs.Prelude.{◌≡◌, ◌++◌, ◌∷◌, [], length, 
 ghost use Rattle.std.specs.List.{AllByRecursion};
 ghost use Rattle.spec_states.specs.Shown.{table_of};
 ghost use Rattle.spec_states.specs.Step.{step};
+ghost use Rattle.spec_states.specs.Laws.{IsSound};
 ghost use Rattle.spec_runs.specs.Kinds.{IsFor};
 ghost use Rattle.spec_runs.specs.Section.{state_after, replies_to, section_deltas};
 ghost use Rattle.gl_graph.specs.Graph.{state_of};
@@ -38,6 +39,7 @@ pub(crate) fn take_all<L: Ledger>(
     steps: &mut Steps<L>,
 ) -> Result<Taken, Memory>
     requires lists { lists ≡ length (state_of graph.old) }
+    requires sound { IsSound (state_of graph.old) }
     requires suits { AllByRecursion (λ c. IsFor c (state_of graph.old)) commands.now }
     ensures limit { graph.new.limit ≡ graph.old.limit }
     ensures state { OnOk result (state_of graph.new ≡ state_after graph.old.limit (state_of graph.old) commands.now) }
@@ -48,7 +50,6 @@ pub(crate) fn take_all<L: Ledger>(
     ensures back { IfOk result (λ taken. Leads taken.undos.items graph.old graph.new) }
     ensures err { OnErr result (contents graph.new ≡ contents graph.old) }
 {
-    graph.law();
     let mut taken = Taken {
         replies: Items::new(alloc),
         deltas: Deltas::make(alloc, lists)?,
@@ -76,6 +77,7 @@ fn take_next<L: Ledger>(
     steps: &mut Steps<L>,
 ) -> Result<(), Memory>
     requires lists { lists ≡ length (state_of graph.old) }
+    requires sound { IsSound (state_of graph.old) }
     requires suits { IsFor command.now (state_of graph.old) }
     requires deltas { Reach taken.old.deltas (state_of graph.old) }
     ensures limit { graph.new.limit ≡ graph.old.limit }

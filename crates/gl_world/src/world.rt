@@ -1,27 +1,26 @@
 //! The world of a plan.
 
-ghost use Rattle.std.specs.Prelude.{◌≡◌, ◌<◌, ◌≤◌, [], length, slice_get, None, IfOk, IfErr, OnOk, OnErr};
+ghost use Rattle.std.specs.Prelude.{◌≡◌, ◌<◌, ◌≤◌, [], true, length, slice_get, None, All, IfOk, IfErr, OnOk, OnErr};
 ghost use Rattle.std.specs.Option.{option_copied};
-ghost use Rattle.spec_states.specs.State.{opening};
+ghost use Rattle.spec_states.specs.Opening.{opening};
 ghost use Rattle.spec_states.specs.Shown.{EachShowsItsView};
 ghost use Rattle.spec_states.specs.Step.{too_long};
+ghost use Rattle.spec_plans.specs.Built.{is_built};
+ghost use Rattle.spec_runs.specs.Fits.{Fits};
 ghost use Rattle.spec_runs.specs.Run.{run, left_to, replies_at, shown_after};
 ghost use Rattle.spec_runs.specs.Telling.{listener_turns};
 ghost use Rattle.gl_graph.specs.Build.{IsReason};
-ghost use Rattle.gl_world.specs.Told.{tellings_of};
-ghost use Rattle.gl_world.specs.World.{CanOpen};
+ghost use Rattle.gl_world.specs.Told.{tellings_of, IsFresh};
 
 use crate::back::retreat_all;
 use crate::log::Log;
 use crate::next::{Next, Spent};
 use crate::section::{Taken, take_all};
 use crate::telling::Telling;
-use crate::turns::turns_of;
 use gl_graph::{BuildFault, Graph};
 use gl_lines::Reply;
 use gl_outside::Actor;
 use gl_plan::Plan;
-use gl_publisher::Numbers;
 use gl_value::{Memory, Steps, Value};
 use sqlite_items::Items;
 use std::alloc::Global;
@@ -38,7 +37,6 @@ pub struct World<N: RunName> {
     plan: Plan,
     graph: Graph,
     log: Log,
-    turn: Numbers,
     taken: Vec<usize>,
     name: PhantomData<N>,
 }
@@ -49,7 +47,6 @@ impl<N: RunName> Model for World<N> {
     ghost use Rattle.spec_lang.specs.MatcherCode.{matcher_code};
     ghost use Rattle.spec_lang.specs.FuncCode.{func_code};
     ghost use Rattle.gl_world.specs.History.{History};
-    ghost use Rattle.gl_world.specs.Told.{tellings_of};
     ghost use Rattle.gl_world.specs.World.{IsWorld};
 
     ghost Value = { History };
@@ -58,22 +55,19 @@ impl<N: RunName> Model for World<N> {
 
     ghost view = { λ w. record { plan = w.plan; order = w.log.order.items } };
 
-    ghost invariant = { λ w. IsWorld w.plan w.log.order.items w.graph w.log.replies w.turn
-        (tellings_of w.log.told.items) w.taken.items };
+    ghost invariant = { λ w. IsWorld w.plan w.log.order.items w.graph w.log.replies w.log.told.items w.taken.items };
 }
 
 impl<N: RunName> World<N> {
     ghost use Rattle.gl_world.specs.Next.{TakesSection};
 
-    /// The world of the plan before its first entry. It takes memory for a copy of the plan and for what its lists
-    /// keep.
+    /// The world of the plan before its first entry. It takes memory for what its lists keep; the plan is shared.
     pub fn open(alloc: Global, plan: &Plan) -> Result<World<N>, BuildFault>
-        requires { CanOpen plan.now }
+        requires built { is_built plan.now ≡ true }
         ensures world { IfOk result (λ w. w ≡ record { plan = plan.now; order = [] }) }
         ensures within { OnOk result (too_long plan.now.limit (opening plan.now) ≡ None) }
         ensures fault { IfErr result (IsReason plan.now.limit (opening plan.now)) }
     {
-        let turn = turns_of(alloc, plan.listeners())?;
         let taken = vec![in alloc; 0usize; plan.writers() as usize]?;
         let copy = plan.copy(alloc)?;
         let graph = Graph::build(alloc, plan)?;
@@ -82,7 +76,6 @@ impl<N: RunName> World<N> {
             plan: copy,
             graph,
             log: Log::new(alloc),
-            turn,
             taken,
             name: PhantomData,
         })
@@ -91,14 +84,15 @@ impl<N: RunName> World<N> {
     /// The plan.
     pub fn plan(&self) -> &Plan
         ensures plan { result.now ≡ self.now.plan }
-        ensures opens { CanOpen self.now.plan }
+        ensures built { is_built self.now.plan ≡ true }
     {
         &self.plan
     }
 
     /// The actors of the entries so far.
     pub fn order(&self) -> &[Actor]
-        ensures { result.now ≡ self.now.order }
+        ensures order { result.now ≡ self.now.order }
+        ensures fits { Fits self.now.plan self.now.order }
     {
         self.log.order.as_slice()
     }
@@ -116,7 +110,8 @@ impl<N: RunName> World<N> {
 
     /// All tellings of all listeners, in the order in which they were told.
     pub fn told(&self) -> &[Telling]
-        ensures { tellings_of result.now ≡ (run self.now.plan self.now.order).told }
+        ensures told { tellings_of result.now ≡ (run self.now.plan self.now.order).told }
+        ensures fresh { All IsFresh result.now }
     {
         self.log.told.as_slice()
     }
@@ -125,7 +120,7 @@ impl<N: RunName> World<N> {
     pub fn turn(&self) -> &[u32]
         ensures { result.now ≡ listener_turns self.now.plan }
     {
-        self.turn.as_slice()
+        self.plan.listener_order()
     }
 
     /// How many sections a writer has left.
@@ -154,7 +149,6 @@ impl<N: RunName> World<N> {
         ensures value { option_copied result ≡ slice_get (shown_after self.now.plan self.now.order list) place }
         ensures views { EachShowsItsView (run self.now.plan self.now.order).state }
     {
-        self.graph.law();
         self.graph.get(list, place)
     }
 
@@ -192,7 +186,7 @@ impl<N: RunName> World<N> {
         match self.log.enter(
             self.alloc,
             self.plan.listeners(),
-            self.turn.as_slice(),
+            self.plan.listener_order(),
             Actor::Writer(writer),
             replies,
             &deltas,

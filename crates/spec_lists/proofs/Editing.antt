@@ -69,7 +69,7 @@ insert_last [] v = refl
 insert_last (x ∷ xs) v = ap (λ ys. x ∷ ys) (insert_last xs v)
 
 -- many at the end
-all_inserted : (vs : List Tree) → IsDelta (map inserted vs) [] vs
+pub all_inserted : (vs : List Tree) → IsDelta (map inserted vs) [] vs
 all_inserted [] = record { starts = tt; ends = refl }
 all_inserted (v ∷ vs) = let h = all_inserted vs in record { starts = h.starts; ends = ap (λ ys. v ∷ ys) h.ends }
 
@@ -77,7 +77,7 @@ pub append_leads : (xs vs : List Tree) → IsDelta (identity (length xs) ++ map 
 append_leads [] vs = all_inserted vs
 append_leads (x ∷ xs) vs = let h = append_leads xs vs in record { starts = h.starts; ends = ap (λ ys. x ∷ ys) h.ends }
 
-inserted_normal : (vs : List Tree) → IsNormal (map inserted vs)
+pub inserted_normal : (vs : List Tree) → IsNormal (map inserted vs)
 inserted_normal [] = tt
 inserted_normal (v ∷ []) = (tt, tt)
 inserted_normal (v ∷ w ∷ vs) = (tt, inserted_normal (w ∷ vs))

@@ -1,12 +1,14 @@
 -- Compositions and inverses lead between the lists that they should.
 use Rattle.std.proofs.Common.{◌≡◌, ◌∙◌, suc, ◌+◌, List, [], ◌∷◌, map, length, refl, ap, sym, subst, arith}
 use Rattle.spec_value.specs.Tree.{Tree}
-use Rattle.spec_lists.specs.Piece.{Piece, kept, updated, deleted, inserted, turned, old_len, new_len, normal, insert_first}
-use Rattle.spec_lists.specs.Delta.{inverse}
-use Rattle.spec_lists.specs.Leads.{LeadsFrom, applied, IsDelta}
+use Rattle.spec_lists.specs.Piece.{Piece, kept, updated, deleted, inserted, turned, old_len, new_len, normal, IsNormal, insert_first}
+use Rattle.spec_lists.specs.Delta.{no_change, composed, inverse}
+use Rattle.spec_lists.specs.Leads.{LeadsFrom, LeadsTo, applied, undone, IsDelta}
 use Rattle.spec_lists.specs.Laws.{CompositionLeads, InverseLeadsBack}
 use Rattle.spec_lists.proofs.Merge.{Merge, merge_of, composed_merge, done, gone, come, keep_keep, keep_set, keep_drop, set_keep, set_set, set_drop, new_keep, new_set, new_drop}
+use Rattle.spec_lists.proofs.Normal.{turned-turned, IsNormal-normal}
 use Rattle.spec_lists.proofs.Composition.{inverse_is}
+use Rattle.spec_lists.proofs.Editing.{identity_leads}
 
 -- the length of the list that a delta starts from, and of the one that it ends at
 pub length_from : (ps : List Piece) (xs : List Tree) → LeadsFrom ps xs → length xs ≡ old_len ps
@@ -90,7 +92,8 @@ composition_leads p q xs ys zs h k =
       ends = k.ends ∙ (ap (applied q) h.ends ∙ (sym g.1 ∙ (sym f.1 ∙ ap (λ ps. applied ps xs) (sym e))));
     }
 
-leads_back : (ps : List Piece) (xs : List Tree) → LeadsFrom ps xs → LeadsFrom (map turned ps) (applied ps xs) × (applied (map turned ps) (applied ps xs) ≡ xs)
+-- the delta that led from a list leads back to it
+pub leads_back : (ps : List Piece) (xs : List Tree) → LeadsFrom ps xs → LeadsFrom (map turned ps) (applied ps xs) × (applied (map turned ps) (applied ps xs) ≡ xs)
 leads_back [] [] h = (tt, refl)
 leads_back [] (x ∷ xs) h = absurd h
 leads_back (kept ∷ ps) [] h = absurd h
@@ -117,3 +120,59 @@ inverse_leads_back p xs ys h =
       ends = sym g.1 ∙ (sym f.1 ∙ ap (λ ps. applied ps (applied p xs)) (sym e));
     } in
     let P : List Tree → Type 0 = λ us. IsDelta (inverse p) us xs in subst P (sym h.ends) back
+
+-- a delta that ends at a list leads to it from the list that it started from
+pub leads_back_to : (d : List Piece) (ys : List Tree) → LeadsTo d ys → LeadsFrom d (undone d ys) × (applied d (undone d ys) ≡ ys)
+leads_back_to d ys h =
+    let g = leads_back (map turned d) ys h in
+    let P : List Piece → Type 0 = λ ps. LeadsFrom ps (undone d ys) × (applied ps (undone d ys) ≡ ys) in
+    subst P (turned-turned d) g
+
+pub delta_to : (d : List Piece) (ys : List Tree) → LeadsTo d ys → IsDelta d (undone d ys) ys
+delta_to d ys h = let g = leads_back_to d ys h in record { starts = g.0; ends = sym g.1 }
+
+-- where a delta leads, it ends, and the list that it started from is the first one
+pub ends_at : (d : List Piece) (xs ys : List Tree) → IsDelta d xs ys → LeadsTo d ys
+ends_at d xs ys h = let P : List Tree → Type 0 = λ zs. LeadsTo d zs in subst P (sym h.ends) (leads_back d xs h.starts).0
+
+pub undone_is : (d : List Piece) (xs ys : List Tree) → IsDelta d xs ys → undone d ys ≡ xs
+undone_is d xs ys h = ap (undone d) h.ends ∙ (leads_back d xs h.starts).1
+
+-- a composition leads to where the second delta does, and undoing it is undoing the second and then the first
+pub composed_ends : (p q : List Piece) (ys : List Tree) → LeadsTo q ys → LeadsTo p (undone q ys) → LeadsTo (composed p q) ys
+composed_ends p q ys hq hp =
+    ends_at (composed p q) _ _ (composition_leads p q _ (undone q ys) ys (delta_to p (undone q ys) hp) (delta_to q ys hq))
+
+pub undone_composed : (p q : List Piece) (ys : List Tree) → LeadsTo q ys → LeadsTo p (undone q ys) → undone (composed p q) ys ≡ undone p (undone q ys)
+undone_composed p q ys hq hp =
+    undone_is (composed p q) _ _ (composition_leads p q _ (undone q ys) ys (delta_to p (undone q ys) hp) (delta_to q ys hq))
+
+-- a composition of deltas that meet is in normal form
+pub composition_normal : (p q : List Piece) (xs ys zs : List Tree) → IsDelta p xs ys → IsDelta q ys zs → IsNormal (composed p q)
+composition_normal p q xs ys zs h k =
+    let fits : new_len p ≡ old_len q = sym (length-applied p xs h.starts) ∙ ap length (sym h.ends) ∙ length_from q ys k.starts in
+    let r : (m : List Piece) × Merge p q m = merge_of (length p + length q) p q (omega arith) fits in
+    subst IsNormal (sym (composed_merge r.1)) (IsNormal-normal r.0)
+
+pub composed_ends_normal : (p q : List Piece) (ys : List Tree) → LeadsTo q ys → LeadsTo p (undone q ys) → IsNormal (composed p q)
+composed_ends_normal p q ys hq hp = composition_normal p q _ (undone q ys) ys (delta_to p (undone q ys) hp) (delta_to q ys hq)
+
+pub inverse_normal : (p : List Piece) → IsNormal (inverse p)
+inverse_normal p = subst IsNormal (sym (inverse_is p)) (IsNormal-normal (map turned p))
+
+-- normal form leads between the same lists
+pub normal_leads : (ps : List Piece) (xs ys : List Tree) → IsDelta ps xs ys → IsDelta (normal ps) xs ys
+normal_leads ps xs ys h =
+    let plain = leads_normal ps xs h.starts in
+    record { starts = plain.0; ends = h.ends ∙ sym plain.1 }
+
+-- the identity gives the list that it is applied to
+pub applied_no_change : (xs : List Tree) → applied (no_change (length xs)) xs ≡ xs
+applied_no_change xs = sym (identity_leads xs).ends
+
+-- and ends at it, and undone it is the same
+pub no_change_ends : (xs : List Tree) → LeadsTo (no_change (length xs)) xs
+no_change_ends xs = ends_at (no_change (length xs)) xs xs (identity_leads xs)
+
+pub undone_no_change : (xs : List Tree) → undone (no_change (length xs)) xs ≡ xs
+undone_no_change xs = undone_is (no_change (length xs)) xs xs (identity_leads xs)

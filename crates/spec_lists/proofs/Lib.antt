@@ -1,8 +1,6 @@
 pub mod Normal
 pub mod Merge
 pub mod Composition
-pub mod Leading
-pub mod Replaying
 pub mod Changing
 pub mod Preceding
 pub mod Pairing
@@ -10,3 +8,7 @@ pub mod Joining
 pub mod Lengths
 pub mod Counting
 pub mod Editing
+pub mod Leading
+pub mod Replaying
+pub mod Making
+pub mod Plains

@@ -30,6 +30,10 @@ applied (deleted v ∷ ps) [] = []
 applied (deleted v ∷ ps) (x ∷ xs) = applied ps xs
 applied (inserted w ∷ ps) xs = w ∷ applied ps xs
 
+-- the list that the delta started from, where it ended at this one
+abbrev pub undone : List Piece → List Tree → List Tree
+undone ps ys = applied (map turned ps) ys
+
 -- the delta leads from one list to the other: a kept pair has equal values, all others have those that the delta tells
 pub record IsDelta (ps : List Piece) (xs ys : List Tree) : Type 0 where
   pub starts : LeadsFrom ps xs

@@ -1,8 +1,9 @@
 -- The lines that are read from a text are within the limits of the language.
 use Rattle.std.proofs.Common.{◌≡◌, ◌∙◌, ◌+◌, ◌==◌, ◌≤◌, ℕ, Bool, true, false, cond, List, [], ◌∷◌, ◌++◌, max, Some, refl, sym, ap, subst, arith, append_assoc, append-nil}
 use Rattle.std.specs.Str.{IsUtf8}
-use Rattle.std.specs.List.{AllByRecursion}
+use Rattle.std.specs.List.{All, AllByRecursion}
 use Rattle.std.proofs.lemmas.Option.{same_Some, none-some}
+use Rattle.std.proofs.lemmas.List.Elements.{All-from_recursion}
 use Rattle.std.proofs.lemmas.Str.{IsUtf8-append, IsUtf8-nil}
 use Rattle.std.proofs.lemmas.Bool.Decides.{nat_tests}
 use Rattle.csv.specs.Reading.{Reached, default_config, strip_bom}
@@ -147,6 +148,12 @@ comes_within {mode = inside i named block} {before = before} (closing {rows = ro
     (all_weaker IsLiteral (λ row. IsWithin (line.Row named row)) (λ row g. (m.0, g)) rows
     (block_literal block rows m.1 b)))) t.1
 comes_within endless m h t = tt
+
+-- all lines that texts of UTF-8 come to, behind the first one
+pub lines_within : (bytes : List ℕ) (lines : List NumberedLine) → IsUtf8 bytes
+    → Comes outside [] 2 (lines_in bytes) (all_read lines) → All (λ l. IsWithin l.what) lines
+lines_within bytes lines t comes =
+    All-from_recursion (λ (l : NumberedLine). IsWithin l.what) lines (comes_within comes tt tt (lines_utf8 bytes t))
 
 pub read_within : (bytes : List ℕ) (lines : List NumberedLine) → ReadsTo bytes (all_read lines) → AllWithin lines
 read_within bytes lines r =

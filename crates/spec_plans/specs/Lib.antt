@@ -7,4 +7,5 @@ pub mod NameFaults
 pub mod Plan
 pub mod Making
 pub mod Cycles
+pub mod Built
 pub mod Rows

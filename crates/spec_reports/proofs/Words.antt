@@ -3,7 +3,7 @@ use Rattle.std.proofs.Common.{◌≡◌, ◌∙◌, ◌⊎◌, ℕ, List, [], �
 use Rattle.gl_outside.specs.declared.gate.Actor.{Actor}
 use Rattle.spec_reports.specs.Order.{spelled_order, AsksReplay}
 use Rattle.spec_plan_texts.proofs.LineCases.{same_or_not}
-use Rattle.spec_reports.specs.Words.{Request, check, replay, Asks, HaveNoForm}
+use Rattle.spec_reports.specs.Words.{Request, check, replay, run, big, Asks, HaveNoForm}
 use Rattle.spec_reports.proofs.Orders.{one_order, order_or_none}
 
 second_word : (w u v : List ℕ) → w ∷ u ∷ [] ≡ w ∷ v ∷ [] → u ≡ v
@@ -28,6 +28,12 @@ one_request words check check h k = refl
 one_request words check (replay q) h k = absurd (check_or_replay words q h k)
 one_request words (replay p) check h k = absurd (check_or_replay words p k h)
 one_request words (replay p) (replay q) h k = ap replay (one_replay words p q h k)
+one_request words run b h k = absurd h.0
+one_request words (big n) b h k = absurd h.0
+one_request words check run h k = absurd k.0
+one_request words check (big n) h k = absurd k.0
+one_request words (replay p) run h k = absurd k.0
+one_request words (replay p) (big n) h k = absurd k.0
 
 -- the words ask for something, or for nothing that there is
 abbrev Asked : List (List ℕ) → Type 0
@@ -37,6 +43,8 @@ no_form : (words : List (List ℕ)) → ¬ (words ≡ codes "check" ∷ []) → 
     → HaveNoForm words
 no_form words checked replayed check h = checked h
 no_form words checked replayed (replay p) h = replayed p h
+no_form words checked replayed run h = h.0
+no_form words checked replayed (big n) h = h.0
 
 one_word : (w : List ℕ) → Asked (w ∷ [])
 one_word w = elim (same_or_not w (codes "check")) as (λ _. Asked (w ∷ [])) [

@@ -1,5 +1,5 @@
 -- What a call answers for its words and the bytes of its source.
-use Rattle.std.specs.Prelude.{◌≡◌, ◌<◌, ◌≤◌, ℕ, List, [], ◌∷◌, ◌++◌, length, codes, decimal, if◌then◌else◌, Option, Some, None}
+use Rattle.std.specs.Prelude.{⊤, ◌≡◌, ◌<◌, ◌≤◌, ℕ, List, [], ◌∷◌, ◌++◌, length, codes, decimal, if◌then◌else◌, Option, Some, None}
 use Rattle.gl_outside.specs.declared.gate.Actor.{Actor}
 use Rattle.gl_lines.specs.declared.fault.PlanKind.{PlanKind}
 use Rattle.gl_lines.specs.declared.fault.PlanKind.TheVariants as kind
@@ -9,12 +9,13 @@ use Rattle.spec_plans.specs.Plan.{Plan}
 use Rattle.spec_plans.specs.declared.fault.FaultAt.{FaultAt}
 use Rattle.spec_plan_texts.specs.Text.{SpellsPlan, FirstFault, SpellsCycle}
 use Rattle.spec_canonical.specs.Canonical.{spelled_plan}
-use Rattle.spec_states.specs.State.{opening}
+use Rattle.spec_states.specs.Opening.{opening}
 use Rattle.spec_states.specs.Step.{too_long as first_too_long}
-use Rattle.spec_runs.specs.Built.{is_built}
-use Rattle.spec_runs.specs.Fits.{BadPlace, Reason, no_writer, no_section, no_proxy, first_bad_place}
+use Rattle.spec_plans.specs.Built.{is_built}
+use Rattle.spec_runs.specs.Fits.{BadPlace, Reason, no_writer, no_section, no_proxy, empty_queue, first_bad_place}
 use Rattle.spec_reports.specs.Report.{line_feed, report, list_name}
-use Rattle.spec_reports.specs.Words.{Request, check, replay, Asks, HaveNoForm}
+use Rattle.spec_reports.specs.Big.{big_plan, big_order, big_summary}
+use Rattle.spec_reports.specs.Words.{Request, check, replay, run, big, Asks, HaveNoForm}
 
 -- What a call comes to: words without a form, too many bytes, a text that is no plan for its first fault or its first cycle,
 -- the one text of a plan, a plan of which a part isn't built, a list that opens too long, a bad place of the order, or the
@@ -48,25 +49,38 @@ opened p order other = taken p order (first_bad_place p order)
 abbrev pub replayed : Plan → List Actor → Outcome
 replayed p order = if is_built p then opened p order (first_too_long p.limit (opening p)) else unbuilt
 
--- what a request for a plan comes to
-abbrev pub answer_of : Request → Plan → Outcome
-answer_of check p = written (spelled_plan p)
-answer_of (replay order) p = replayed p order
+-- what a request for a plan comes to; the actors of a run take the lock in the order taken
+abbrev pub answer_of : Request → List Actor → Plan → Outcome
+answer_of check taken p = written (spelled_plan p)
+answer_of (replay order) taken p = replayed p order
+answer_of run taken p = replayed p taken
+answer_of (big n) taken p = reported (big_summary n)
 
--- What a call comes to. Of the cases, which are in the order of refusals, exactly one fits.
-pub data ComesTo (words : List (List ℕ)) (bytes : List ℕ) : Outcome → Type 0 where
-  no_form : HaveNoForm words → ComesTo words bytes usage
-  large : (r : Request) → Asks words r → most_bytes < length bytes → ComesTo words bytes too_large
-  a_fault : (r : Request) (f : FaultAt) → Asks words r → length bytes ≤ most_bytes → FirstFault bytes f → ComesTo words bytes (faulty f)
-  a_cycle : (r : Request) (names : List (List ℕ)) → Asks words r → length bytes ≤ most_bytes → SpellsCycle bytes names
-      → ComesTo words bytes (circular names)
-  a_plan : {o : Outcome} (r : Request) (p : Plan) → Asks words r → length bytes ≤ most_bytes → SpellsPlan bytes p → o ≡ answer_of r p
-      → ComesTo words bytes o
+-- a request that reads a plan
+abbrev pub Reads : Request → Type 0
+Reads check = ⊤
+Reads (replay order) = ⊤
+Reads run = ⊤
+Reads (big n) = ⊥
+
+-- What a call comes to, where the actors of a run take the lock in this order. Of the cases, which are in the order of refusals,
+-- exactly one fits.
+pub data ComesTo (words : List (List ℕ)) (bytes : List ℕ) (taken : List Actor) : Outcome → Type 0 where
+  no_form : HaveNoForm words → ComesTo words bytes taken usage
+  a_size : (n : ℕ) → Asks words (big n) → ComesTo words bytes taken (reported (big_summary n))
+  large : (r : Request) → Asks words r → Reads r → most_bytes < length bytes → ComesTo words bytes taken too_large
+  a_fault : (r : Request) (f : FaultAt) → Asks words r → Reads r → length bytes ≤ most_bytes → FirstFault bytes f
+      → ComesTo words bytes taken (faulty f)
+  a_cycle : (r : Request) (names : List (List ℕ)) → Asks words r → Reads r → length bytes ≤ most_bytes → SpellsCycle bytes names
+      → ComesTo words bytes taken (circular names)
+  a_plan : {o : Outcome} (r : Request) (p : Plan) → Asks words r → Reads r → length bytes ≤ most_bytes → SpellsPlan bytes p
+      → o ≡ answer_of r taken p → ComesTo words bytes taken o
 
 abbrev pub reason_text : Reason → List ℕ
 reason_text no_writer = codes "no-writer"
 reason_text no_section = codes "no-section"
 reason_text no_proxy = codes "no-proxy"
+reason_text empty_queue = codes "empty-queue"
 
 abbrev pub kind_text : PlanKind → List ℕ
 kind_text kind.Utf8 = codes "utf8"

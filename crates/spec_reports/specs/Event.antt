@@ -1,6 +1,6 @@
 -- The text of an event.
 use Rattle.std.specs.Prelude.{ℕ, List, [], ◌∷◌, ◌++◌, codes, decimal}
-use Rattle.spec_lists.specs.Piece.{Piece}
+use Rattle.spec_lists.specs.Delta.{Delta}
 use Rattle.spec_lists.specs.Changes.{Change, delete, insertion, update, changes}
 use Rattle.spec_texts.specs.Value.{spelled_value}
 
@@ -20,5 +20,5 @@ abbrev pub changes_text : List Change → List ℕ
 changes_text [] = []
 changes_text (c ∷ cs) = change_text c ++ other_changes cs
 
-abbrev pub event_text : List Piece → List ℕ
+abbrev pub event_text : Delta → List ℕ
 event_text delta = changes_text (changes delta)

@@ -7,54 +7,51 @@ use Rattle.spec_value.specs.Tree.{Tree}
 use Rattle.spec_lists.specs.Leads.{IsDelta}
 use Rattle.gl_outside.specs.declared.gate.Actor.{Actor}
 use Rattle.gl_lines.specs.declared.plan.ListenerDecl.{ListenerDecl}
-use Rattle.gl_lines.specs.declared.plan.Command.{Command}
 use Rattle.spec_plans.specs.Plan.{Plan}
 use Rattle.spec_plans.specs.Cycles.{IsAcyclic}
 use Rattle.spec_canonical.specs.WellFormed.{HasHeard, IsWellFormed}
-use Rattle.spec_states.specs.State.{State, opening}
+use Rattle.spec_states.specs.State.{State}
 use Rattle.spec_states.specs.Shown.{shown, table_of}
+use Rattle.spec_states.specs.Opening.{opening}
 use Rattle.spec_states.specs.Wave.{Deltas, delta_in}
-use Rattle.spec_states.specs.Laws.{IsOrdered}
-use Rattle.spec_states.proofs.Views.{length-table_of}
-use Rattle.spec_runs.specs.Section.{state_after, section_deltas}
+use Rattle.spec_states.proofs.Openings.{length-opening}
+use Rattle.spec_runs.specs.Entry.{Deed, outcome, next_deed}
 use Rattle.spec_runs.specs.Telling.{Telling, tellings}
-use Rattle.spec_runs.specs.Run.{Run, run, start, entry, next_commands, shown_after}
-use Rattle.spec_runs.specs.Laws.{told_to, told_at, replay_all, entry_delta, heard, EachHears}
-use Rattle.spec_runs.proofs.Runs.{run_more, order_of_run}
-use Rattle.spec_runs.proofs.Keeping.{length-state}
-use Rattle.spec_runs.proofs.Ordered.{run_ordered, well_formed_ordered, well_formed_listeners}
-use Rattle.spec_runs.proofs.Sections.{section_leads, after_ordered}
+use Rattle.spec_runs.specs.Run.{Run, run, start, entry, shown_after}
+use Rattle.spec_runs.specs.Kinds.{KeepsKinds}
+use Rattle.spec_runs.specs.Prefix.{entry_delta}
+use Rattle.spec_runs.specs.Laws.{told_to, told_at, replay_all, heard, EachHears}
+use Rattle.spec_runs.proofs.Runs.{outcome_after, order_of_run, state_more, told_more}
+use Rattle.spec_runs.proofs.Keeping.{keeps_same, keeps_on, entry_keeps, length-state}
+use Rattle.spec_runs.proofs.Queues.{IsAtRest}
+use Rattle.spec_runs.proofs.Entries.{DeedSuits, entry_leads, entry_rests}
+use Rattle.spec_runs.proofs.Suiting.{deed_suits}
+use Rattle.spec_runs.proofs.Ordered.{opening_rests, run_sound, next_suits, well_formed_listeners}
 use Rattle.spec_runs.proofs.Told.{AreHeard, told_to_append, told_at_append, replay_append, told_at_others, told_at_all, all_place, placed_from, told_in_entry, heard_leads}
-
-pub state_entry : (p : Plan) (order : List Actor) (a : Actor)
-    → (run p (order ++ a ∷ [])).state ≡ state_after p.limit (run p order).state (next_commands p order a)
-state_entry p order a = rw (run_more p order a, order_of_run p order) refl
-
-pub told_entry : (p : Plan) (order : List Actor) (a : Actor)
-    → (run p (order ++ a ∷ [])).told ≡ (run p order).told
-    ++ tellings p (length order) (section_deltas p.limit (run p order).state (next_commands p order a))
-told_entry p order a = rw (run_more p order a, order_of_run p order) refl
+use Rattle.spec_states.proofs.Views.{length-table_of}
 
 -- the delta of a list in an entry leads from what it showed before to what it shows after
-pub entry_leads : (p : Plan) (order : List Actor) (a : Actor) (list : ℕ) → IsOrdered (opening p) → list < length p.lists
+pub delta_leads : (p : Plan) (order : List Actor) (a : Actor) (list : ℕ) → IsWellFormed p
+    → IsAcyclic p → list < length p.lists
     → IsDelta (entry_delta p order a list) (shown_after p order list) (shown_after p (order ++ a ∷ []) list)
-entry_leads p order a list h within =
+delta_leads p order a list h free within =
     let s : State = (run p order).state in
     let there : list < length (table_of s) = omega (arith, length-table_of s, length-state p order, within) in
     let P : State → Type 0 = λ t. IsDelta (entry_delta p order a list) (shown s list) (shown t list) in
-    let leads = section_leads p.limit s (next_commands p order a) (run_ordered p order h) in
-    subst P (sym (state_entry p order a)) (leads.each list there)
+    let leads = entry_leads p.limit s (next_deed p order a) (run_sound p order h free) (next_suits p order a h) in
+    subst P (sym (state_more p order a)) (leads.each list there)
 
 told_once : (p : Plan) (order : List Actor) (a : Actor) (k : ℕ) (d : ListenerDecl) → AreHeard p
     → slice_get p.listeners k ≡ Some d
-    → told_to k (told_at (length order) (run p (order ++ a ∷ [])).told) ≡ heard (entry_delta p order a d.list)
+    → told_to k (told_at (length order) (run p (order ++ a ∷ [])).told)
+    ≡ heard (entry_delta p order a d.list)
 told_once p order a k d are e =
     let n : ℕ = length order in
-    let ds : Deltas = section_deltas p.limit (run p order).state (next_commands p order a) in
+    let ds : Deltas = (outcome_after p order a).deltas in
     let P : List Actor → Type 0 = λ o. AllByRecursion (λ t. t.place < length o) (run p order).told in
     let placed : AllByRecursion (λ t. t.place < n) (run p order).told =
     subst P (order_of_run p order) (placed_from p (start p) order tt) in
-    ap (λ ts. told_to k (told_at n ts)) (told_entry p order a)
+    ap (λ ts. told_to k (told_at n ts)) (told_more p order a)
     ∙ ap (told_to k) (told_at_append n (run p order).told (tellings p n ds))
     ∙ ap (λ ts. told_to k (ts ++ told_at n (tellings p n ds))) (told_at_others n (run p order).told placed)
     ∙ ap (told_to k) (told_at_all n (tellings p n ds) (all_place p.listeners n ds _))
@@ -62,36 +59,38 @@ told_once p order a k d are e =
 
 -- so far what the listener was told gives what the list shows
 record Follows (p : Plan) (k list : ℕ) (r : Run) : Type 0 where
-  in_order : IsOrdered r.state
-  long : length r.state ≡ length p.lists
+  rests : IsAtRest r.state
+  keeps : KeepsKinds (opening p) r.state
   gives : replay_all (told_to k r.told) (shown (opening p) list) ≡ shown r.state list
 
-replays_all : (p : Plan) (k : ℕ) (d : ListenerDecl) (order : List Actor) → IsOrdered (opening p) → AreHeard p
-    → slice_get p.listeners k ≡ Some d
-    → replay_all (told_to k (run p order).told) (shown_after p [] d.list) ≡ shown_after p order d.list
-replays_all p k d order h are e =
-    replays_from (start p) order (record { in_order = h; long = length-state p []; gives = refl })
+replays_all : (p : Plan) (k : ℕ) (d : ListenerDecl) (order : List Actor) → IsWellFormed p
+    → IsAcyclic p → AreHeard p → slice_get p.listeners k ≡ Some d
+    → replay_all (told_to k (run p order).told) (shown_after p [] d.list)
+    ≡ shown_after p order d.list
+replays_all p k d order h free are e =
+    replays_from (start p) order
+    (record { rests = opening_rests p h free; keeps = keeps_same (opening p); gives = refl })
   where
     step : (r : Run) (a : Actor) → Follows p k d.list r → Follows p k d.list (entry p r a)
     step r a f =
-        let cs : List Command = next_commands p r.order a in
-        let ds : Deltas = section_deltas p.limit r.state cs in
+        let deed : Deed = next_deed p r.order a in
+        let may : DeedSuits r.state deed = deed_suits p r.state r.order a h f.keeps in
+        let leads = entry_leads p.limit r.state deed f.rests.sound may in
+        let next : State = (entry p r a).state in
+        let ds : Deltas = (outcome p.limit r.state deed).deltas in
         let here : List Telling = tellings p (length r.order) ds in
+        let keeps = f.keeps in
         let within : d.list < length (table_of r.state) =
-        omega (arith, length-table_of r.state, f.long, are.lists k d e) in
-        let leads = section_leads p.limit r.state cs f.in_order in
-        let after : length (state_after p.limit r.state cs) ≡ length p.lists =
-        sym (length-table_of (state_after p.limit r.state cs)) ∙ leads.same ∙ length-table_of r.state ∙ f.long in
+        omega (arith, length-table_of r.state, keeps.long, length-opening p, are.lists k d e) in
         record {
-          in_order = after_ordered p.limit r.state cs f.in_order;
-          long = after;
+          rests = entry_rests p.limit r.state deed f.rests may;
+          keeps = keeps_on (opening p) r.state next f.keeps (entry_keeps p r a);
           gives =
               ap (λ ts. replay_all ts (shown (opening p) d.list)) (told_to_append k r.told here)
               ∙ replay_append (told_to k r.told) (told_to k here) (shown (opening p) d.list)
               ∙ ap (replay_all (told_to k here)) f.gives
               ∙ ap (λ es. replay_all es (shown r.state d.list)) (told_in_entry p (length r.order) ds k d are e)
-              ∙ heard_leads (delta_in ds d.list) (shown r.state d.list) (shown (state_after p.limit r.state cs) d.list)
-              (leads.each d.list within);
+              ∙ heard_leads (delta_in ds d.list) (shown r.state d.list) (shown next d.list) (leads.each d.list within);
         }
 
     replays_from : (r : Run) (order : List Actor) → Follows p k d.list r
@@ -101,10 +100,10 @@ replays_all p k d order h are e =
     replays_from r (a ∷ order) f = replays_from (entry p r a) order (step r a f)
 
 -- every listener of a plan hears of its list
-pub each_hears : (p : Plan) → IsOrdered (opening p) → AreHeard p → EachHears p
-each_hears p h are k d e = record {
+pub each_hears : (p : Plan) → IsWellFormed p → IsAcyclic p → AreHeard p → EachHears p
+each_hears p h free are k d e = record {
   entries = λ order a.
-      let leads = entry_leads p order a d.list h (are.lists k d e) in
+      let leads = delta_leads p order a d.list h free (are.lists k d e) in
       let once = told_once p order a k d are e in
       record {
         leads = leads;
@@ -114,14 +113,13 @@ each_hears p h are k d e = record {
             sym (ap (λ es. replay_all es before) (sym nothing ∙ once)
             ∙ heard_leads (entry_delta p order a d.list) before (shown_after p (order ++ a ∷ []) d.list) leads);
       };
-  replays = λ order. replays_all p k d order h are e;
+  replays = λ order. replays_all p k d order h free are e;
 }
 
 -- ---- well formed plans
 
-heard_lists : (p : Plan) (ds : List ListenerDecl) (k : ℕ) (d : ListenerDecl) → AllByRecursion (HasHeard p) ds
-    → slice_get ds k ≡ Some d
-    → d.list < length p.lists
+heard_lists : (p : Plan) (ds : List ListenerDecl) (k : ℕ) (d : ListenerDecl)
+    → AllByRecursion (HasHeard p) ds → slice_get ds k ≡ Some d → d.list < length p.lists
 heard_lists p [] k d h e = absurd cc
 heard_lists p (l ∷ ds) zero d h e =
     let same : l ≡ d = cc in subst (λ (m : ListenerDecl). m.list < length p.lists) same h.0.list
@@ -135,4 +133,4 @@ well_formed_heard p h free = record {
 
 -- every listener of a well formed plan without cycles hears of its list
 pub hears_well_formed : (p : Plan) → IsWellFormed p → IsAcyclic p → EachHears p
-hears_well_formed p h free = each_hears p (well_formed_ordered p h free) (well_formed_heard p h free)
+hears_well_formed p h free = each_hears p h free (well_formed_heard p h free)

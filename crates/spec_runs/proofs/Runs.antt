@@ -3,19 +3,19 @@ use Rattle.std.proofs.Common.{◌≡◌, ◌∙◌, ℕ, suc, ◌+◌, ◌++◌,
 use Rattle.std.proofs.lemmas.List.{length_push}
 use Rattle.std.proofs.lemmas.List.Sums.{fold_push}
 use Rattle.gl_outside.specs.declared.gate.Actor.{Actor}
-use Rattle.gl_outside.specs.declared.gate.Actor.TheVariants.{Writer}
-use Rattle.spec_plans.specs.Plan.{Plan, commands_of}
-use Rattle.spec_runs.specs.Section.{state_after, replies_to}
-use Rattle.spec_runs.specs.Section.{section_deltas}
+use Rattle.spec_plans.specs.Plan.{Plan}
 use Rattle.spec_runs.specs.Telling.{tellings}
-use Rattle.spec_runs.specs.Run.{Run, run, start, entry, next_commands, taken_by, is_writer}
+use Rattle.spec_runs.specs.Entry.{taken_by, is_writer, Outcome, outcome, next_deed, queued}
+use Rattle.spec_runs.specs.Run.{Run, run, start, entry}
 
 -- the run of an order with one actor more is that of the order and one entry more
-pub run_more : (p : Plan) (order : List Actor) (a : Actor) → run p (order ++ a ∷ []) ≡ entry p (run p order) a
+pub run_more : (p : Plan) (order : List Actor) (a : Actor)
+    → run p (order ++ a ∷ []) ≡ entry p (run p order) a
 run_more p order a = fold_push (entry p) (start p) order a
 
 -- a fold over entries writes down the order that it takes
-pub order_from : (p : Plan) (r : Run) (order : List Actor) → (fold (entry p) r order).order ≡ r.order ++ order
+pub order_from : (p : Plan) (r : Run) (order : List Actor)
+    → (fold (entry p) r order).order ≡ r.order ++ order
 order_from p r [] = search rules
 order_from p r (a ∷ order) = order_from p (entry p r a) order ∙ append_assoc r.order (a ∷ []) order
 
@@ -39,25 +39,28 @@ replies_from : (p : Plan) (r : Run) (order : List Actor)
 replies_from p r [] = omega arith
 replies_from p r (a ∷ order) =
     replies_from p (entry p r a) order
-    ∙ omega (arith, length_push r.replies (replies_to p.limit r.state (next_commands p r.order a)))
+    ∙ omega (arith, length_push r.replies (outcome p.limit r.state (next_deed p r.order a)).replies)
 
 pub length-replies : (p : Plan) (order : List Actor) → length (run p order).replies ≡ length order
 length-replies p order = replies_from p (start p) order ∙ omega arith
 
--- one section of a writer more: its state, and its replies behind the others
-pub state_more : (p : Plan) (order : List Actor) (w : ℕ)
-    → (run p (order ++ Writer w ∷ [])).state
-    ≡ state_after p.limit (run p order).state (commands_of p w (taken_by w order))
-state_more p order w = rw (run_more p order (Writer w), order_of_run p order) refl
+-- what comes of an actor's next entry after an order
+abbrev pub outcome_after : Plan → List Actor → Actor → Outcome
+outcome_after p order a = outcome p.limit (run p order).state (next_deed p order a)
 
-pub replies_more : (p : Plan) (order : List Actor) (w : ℕ)
-    → (run p (order ++ Writer w ∷ [])).replies
-    ≡ (run p order).replies ++ replies_to p.limit (run p order).state (commands_of p w (taken_by w order)) ∷ []
-replies_more p order w = rw (run_more p order (Writer w), order_of_run p order) refl
+-- one entry more: its state, and its replies behind the others
+pub state_more : (p : Plan) (order : List Actor) (a : Actor)
+    → (run p (order ++ a ∷ [])).state
+    ≡ queued (outcome_after p order a).deltas (outcome_after p order a).state
+state_more p order a = rw (run_more p order a, order_of_run p order) refl
+
+pub replies_more : (p : Plan) (order : List Actor) (a : Actor)
+    → (run p (order ++ a ∷ [])).replies
+    ≡ (run p order).replies ++ (outcome_after p order a).replies ∷ []
+replies_more p order a = rw (run_more p order a, order_of_run p order) refl
 
 -- and its tellings behind all others
-pub told_more : (p : Plan) (order : List Actor) (w : ℕ)
-    → (run p (order ++ Writer w ∷ [])).told
-    ≡ (run p order).told
-    ++ tellings p (length order) (section_deltas p.limit (run p order).state (commands_of p w (taken_by w order)))
-told_more p order w = rw (run_more p order (Writer w), order_of_run p order) refl
+pub told_more : (p : Plan) (order : List Actor) (a : Actor)
+    → (run p (order ++ a ∷ [])).told
+    ≡ (run p order).told ++ tellings p (length order) (outcome_after p order a).deltas
+told_more p order a = rw (run_more p order a, order_of_run p order) refl

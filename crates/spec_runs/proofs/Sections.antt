@@ -13,10 +13,11 @@ use Rattle.spec_states.specs.State.{State}
 use Rattle.spec_states.specs.Shown.{Table, shows_in, table_of}
 use Rattle.spec_states.specs.Wave.{Deltas, delta_in, unchanged}
 use Rattle.spec_states.specs.Step.{step}
-use Rattle.spec_states.specs.Laws.{IsOrdered, Lead}
-use Rattle.spec_states.proofs.Views.{length-table_of, step_ordered}
-use Rattle.spec_states.proofs.Waves.{unchanged_at, unchanged_leads, step_leads}
+use Rattle.spec_states.specs.Laws.{IsSound, Lead}
 use Rattle.spec_runs.specs.Section.{state_after, composed_all, deltas_after, section_deltas}
+use Rattle.spec_runs.proofs.Keeping.{AllSuit, all_suit_kept, step_keeps}
+use Rattle.spec_states.proofs.Views.{length-table_of}
+use Rattle.spec_states.proofs.Waves.{unchanged_at, unchanged_leads, step_leads, step_sound}
 
 -- ---- one delta a list, composed list by list
 
@@ -27,14 +28,15 @@ composed_at (p ∷ ps) [] k h g = absurd (omega (arith, g))
 composed_at (p ∷ ps) (q ∷ qs) zero h g = refl
 composed_at (p ∷ ps) (q ∷ qs) (suc k) h g = composed_at ps qs k (omega arith) (omega arith)
 
-pub length-composed_all : (ps qs : Deltas) → length qs ≡ length ps → length (composed_all ps qs) ≡ length ps
+pub length-composed_all : (ps qs : Deltas) → length qs ≡ length ps
+    → length (composed_all ps qs) ≡ length ps
 length-composed_all [] qs e = refl
 length-composed_all (p ∷ ps) [] e = absurd (omega (arith, e))
 length-composed_all (p ∷ ps) (q ∷ qs) e = ap suc (length-composed_all ps qs (omega (arith, e)))
 
 -- as many deltas, each the same
-pub same_deltas : (ps qs : Deltas) → length ps ≡ length qs → ((k : ℕ) → k < length ps → delta_in ps k ≡ delta_in qs k)
-    → ps ≡ qs
+pub same_deltas : (ps qs : Deltas) → length ps ≡ length qs
+    → ((k : ℕ) → k < length ps → delta_in ps k ≡ delta_in qs k) → ps ≡ qs
 same_deltas [] [] long same = refl
 same_deltas [] (q ∷ qs) long same = absurd (omega (arith, long))
 same_deltas (p ∷ ps) [] long same = absurd (omega (arith, long))
@@ -51,7 +53,8 @@ pub new_len_leads : (d : List Piece) (xs ys : List Tree) → IsDelta d xs ys →
 new_len_leads d xs ys h = sym (length-applied d xs h.starts) ∙ ap length (sym h.ends)
 
 -- where a delta ends, the next one begins
-pub meet : (p q : List Piece) (xs ys zs : List Tree) → IsDelta p xs ys → IsDelta q ys zs → new_len p ≡ old_len q
+pub meet : (p q : List Piece) (xs ys zs : List Tree) → IsDelta p xs ys → IsDelta q ys zs
+    → new_len p ≡ old_len q
 meet p q xs ys zs h k = new_len_leads p xs ys h ∙ sym (old_len_leads q ys zs k)
 
 pub composed_normal : (p q : List Piece) → new_len p ≡ old_len q → IsNormal (composed p q)
@@ -78,19 +81,21 @@ record Both (ps qs : Deltas) (b : Table) (k : ℕ) : Type 0 where
   middle : k < length b
   second : k < length qs
 
-both_there : (ps qs : Deltas) (a b c : Table) (k : ℕ) → Lead ps a b → Lead qs b c → k < length a → Both ps qs b k
+both_there : (ps qs : Deltas) (a b c : Table) (k : ℕ) → Lead ps a b → Lead qs b c → k < length a
+    → Both ps qs b k
 both_there ps qs a b c k h g within =
     let middle : k < length b = omega (arith, h.same) in
     record { first = omega (arith, h.long); middle = middle; second = omega (arith, g.long, middle) }
 
 -- the delta of a list in the one and then the other
-pub composed_in : (ps qs : Deltas) (a b c : Table) (k : ℕ) → Lead ps a b → Lead qs b c → k < length a
-    → delta_in (composed_all ps qs) k ≡ composed (delta_in ps k) (delta_in qs k)
+pub composed_in : (ps qs : Deltas) (a b c : Table) (k : ℕ) → Lead ps a b → Lead qs b c
+    → k < length a → delta_in (composed_all ps qs) k ≡ composed (delta_in ps k) (delta_in qs k)
 composed_in ps qs a b c k h g within =
     let there : Both ps qs b k = both_there ps qs a b c k h g within in
     composed_at ps qs k there.first there.second
 
-pub leads_on : (ps qs : Deltas) (a b c : Table) → Lead ps a b → Lead qs b c → Lead (composed_all ps qs) a c
+pub leads_on : (ps qs : Deltas) (a b c : Table) → Lead ps a b → Lead qs b c
+    → Lead (composed_all ps qs) a c
 leads_on ps qs a b c h g = record {
   long = length-composed_all ps qs (g.long ∙ h.same ∙ sym h.long) ∙ h.long;
   same = g.same ∙ h.same;
@@ -135,8 +140,8 @@ unchanged_then ps a b h =
         ∙ nothing_composed (delta_in ps k) (shows_in a k) (shows_in b k) (h.normal k within) (h.each k within)
 
 -- three, in any grouping
-pub composed_all_assoc : (ps qs rs : Deltas) (a b c d : Table) → Lead ps a b → Lead qs b c → Lead rs c d
-    → composed_all (composed_all ps qs) rs ≡ composed_all ps (composed_all qs rs)
+pub composed_all_assoc : (ps qs rs : Deltas) (a b c d : Table) → Lead ps a b → Lead qs b c
+    → Lead rs c d → composed_all (composed_all ps qs) rs ≡ composed_all ps (composed_all qs rs)
 composed_all_assoc ps qs rs a b c d h g f =
     let left : Lead (composed_all (composed_all ps qs) rs) a d =
     leads_on (composed_all ps qs) rs a c d (leads_on ps qs a b c h g) f in
@@ -147,7 +152,8 @@ composed_all_assoc ps qs rs a b c d h g f =
     (λ k low. same k (omega (arith, low, left.long)))
   where
     same : (k : ℕ) → k < length a
-        → delta_in (composed_all (composed_all ps qs) rs) k ≡ delta_in (composed_all ps (composed_all qs rs)) k
+        → delta_in (composed_all (composed_all ps qs) rs) k
+        ≡ delta_in (composed_all ps (composed_all qs rs)) k
     same k within =
         let middle : k < length b = omega (arith, h.same, within) in
         let third : k < length c = omega (arith, g.same, middle) in
@@ -163,45 +169,56 @@ composed_all_assoc ps qs rs a b c d h g f =
 
 -- ---- sections
 
-pub after_ordered : (limit : ℕ) (s : State) (cs : List Command) → IsOrdered s → IsOrdered (state_after limit s cs)
-after_ordered limit s [] h = h
-after_ordered limit s (c ∷ cs) h = after_ordered limit (step limit s c).state cs (step_ordered limit s c h)
+-- commands that suit their lists do so after another one
+pub suit_after : (limit : ℕ) (s : State) (c : Command) (cs : List Command) → AllSuit s cs
+    → AllSuit (step limit s c).state cs
+suit_after limit s c cs suit = all_suit_kept s (step limit s c).state cs (step_keeps limit s c) suit
+
+pub after_sound : (limit : ℕ) (s : State) (cs : List Command) → IsSound s → AllSuit s cs
+    → IsSound (state_after limit s cs)
+after_sound limit s [] h suit = h
+after_sound limit s (c ∷ cs) h suit =
+    after_sound limit (step limit s c).state cs (step_sound limit s c h suit.0.attaches suit.0.takes) (suit_after limit s c cs suit.1)
 
 -- deltas that lead to a state, and then those of commands
-pub after_leads : (limit : ℕ) (s : State) (sofar : Deltas) (start : Table) (cs : List Command) → IsOrdered s
-    → Lead sofar start (table_of s) → Lead (deltas_after limit s sofar cs) start (table_of (state_after limit s cs))
-after_leads limit s sofar start [] h lead = lead
-after_leads limit s sofar start (c ∷ cs) h lead =
-    after_leads limit (step limit s c).state _ start cs (step_ordered limit s c h)
+pub after_leads : (limit : ℕ) (s : State) (sofar : Deltas) (start : Table) (cs : List Command)
+    → IsSound s → AllSuit s cs → Lead sofar start (table_of s)
+    → Lead (deltas_after limit s sofar cs) start (table_of (state_after limit s cs))
+after_leads limit s sofar start [] h suit lead = lead
+after_leads limit s sofar start (c ∷ cs) h suit lead =
+    after_leads limit (step limit s c).state _ start cs (step_sound limit s c h suit.0.attaches suit.0.takes)
+    (suit_after limit s c cs suit.1)
     (leads_on sofar (step limit s c).deltas start (table_of s) (table_of (step limit s c).state) lead
-    (step_leads limit s c h))
+    (step_leads limit s c h suit.0.attaches suit.0.takes))
 
 -- each delta of a section leads from what its list showed before it to what it shows after it
-pub section_leads : (limit : ℕ) (s : State) (cs : List Command) → IsOrdered s
+pub section_leads : (limit : ℕ) (s : State) (cs : List Command) → IsSound s → AllSuit s cs
     → Lead (section_deltas limit s cs) (table_of s) (table_of (state_after limit s cs))
-section_leads limit s cs h =
-    after_leads limit s (unchanged (table_of s)) (table_of s) cs h (unchanged_leads (table_of s))
+section_leads limit s cs h suit =
+    after_leads limit s (unchanged (table_of s)) (table_of s) cs h suit (unchanged_leads (table_of s))
 
 -- one for each list
-pub length-section_deltas : (limit : ℕ) (s : State) (cs : List Command) → IsOrdered s
+pub length-section_deltas : (limit : ℕ) (s : State) (cs : List Command) → IsSound s → AllSuit s cs
     → length (section_deltas limit s cs) ≡ length s
-length-section_deltas limit s cs h = (section_leads limit s cs h).long ∙ length-table_of s
+length-section_deltas limit s cs h suit = (section_leads limit s cs h suit).long ∙ length-table_of s
 
 -- deltas and then those of commands are the deltas composed with the commands' section
-pub deltas_after_is : (limit : ℕ) (s : State) (sofar : Deltas) (start : Table) (cs : List Command) → IsOrdered s
-    → Lead sofar start (table_of s) → deltas_after limit s sofar cs ≡ composed_all sofar (section_deltas limit s cs)
-deltas_after_is limit s sofar start [] h lead = sym (then_unchanged sofar start (table_of s) lead)
-deltas_after_is limit s sofar start (c ∷ cs) h lead =
+pub deltas_after_is : (limit : ℕ) (s : State) (sofar : Deltas) (start : Table) (cs : List Command)
+    → IsSound s → AllSuit s cs → Lead sofar start (table_of s)
+    → deltas_after limit s sofar cs ≡ composed_all sofar (section_deltas limit s cs)
+deltas_after_is limit s sofar start [] h suit lead = sym (then_unchanged sofar start (table_of s) lead)
+deltas_after_is limit s sofar start (c ∷ cs) h suit lead =
     let next : State = (step limit s c).state in
     let one : Deltas = (step limit s c).deltas in
-    let here : Lead one (table_of s) (table_of next) = step_leads limit s c h in
-    let now : IsOrdered next = step_ordered limit s c h in
+    let here : Lead one (table_of s) (table_of next) = step_leads limit s c h suit.0.attaches suit.0.takes in
+    let now : IsSound next = step_sound limit s c h suit.0.attaches suit.0.takes in
+    let then : AllSuit next cs = suit_after limit s c cs suit.1 in
     let rest : Deltas = section_deltas limit next cs in
     let first : composed_all (unchanged (table_of s)) one ≡ one =
     unchanged_then one (table_of s) (table_of next) here in
-    deltas_after_is limit next (composed_all sofar one) start cs now
+    deltas_after_is limit next (composed_all sofar one) start cs now then
     (leads_on sofar one start (table_of s) (table_of next) lead here)
     ∙ composed_all_assoc sofar one rest start (table_of s) (table_of next) (table_of (state_after limit next cs))
-    lead here (section_leads limit next cs now)
+    lead here (section_leads limit next cs now then)
     ∙ sym (ap (composed_all sofar) (ap (λ ds. deltas_after limit next ds cs) first
-    ∙ deltas_after_is limit next one (table_of s) cs now here))
+    ∙ deltas_after_is limit next one (table_of s) cs now then here))

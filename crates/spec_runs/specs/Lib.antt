@@ -1,8 +1,14 @@
 pub mod Section
+pub mod Entry
 pub mod Telling
 pub mod Run
 pub mod Fits
-pub mod Built
+pub mod Closing
+pub mod Prefix
+pub mod Cost
 pub mod Kinds
 pub mod Laws
 pub mod Rows
+pub mod RowsWords
+pub mod RowsProxies
+pub mod RowsCost

@@ -3,6 +3,7 @@ use Rattle.std.specs.Prelude.{◌≡◌, ℕ, pos, false, true, List, [], ◌∷
 use Rattle.spec_value.specs.Tree.{Tree, num, text, items_of}
 use Rattle.spec_lang.specs.Matcher.{Matcher, all, is}
 use Rattle.spec_lang.specs.declared.Test.TheVariants.{Gt}
+use Rattle.spec_lists.specs.Piece.{inserted}
 use Rattle.spec_lists.specs.Changes.{Change, changes, insertion, delete, update}
 use Rattle.gl_outside.specs.declared.gate.Actor.TheVariants.{Writer, Proxy}
 use Rattle.gl_lines.specs.declared.plan.Command.{Command}
@@ -15,7 +16,7 @@ use Rattle.spec_states.specs.Shown.{table_of}
 use Rattle.spec_runs.specs.Telling.{Telling, listener_turns}
 use Rattle.spec_runs.specs.Run.{run, left_to, replies_at, shown_after}
 use Rattle.spec_runs.specs.Fits.{first_bad_place, no_section, no_proxy, no_writer}
-use Rattle.spec_runs.specs.Built.{is_built}
+use Rattle.spec_plans.specs.Built.{is_built}
 
 -- a source with the row 1 whose lists may have two elements, and one section: addall s [2,3], add s 2, show s
 abbrev pub short : Plan
@@ -148,3 +149,17 @@ told_after_told = refl
 -- a listener that is told after another isn't built yet
 told_after_not_built : is_built told_after ≡ false
 told_after_not_built = refl
+
+-- an echo listener tries to write back once in each telling
+abbrev echoed : Plan
+echoed = record {
+  limit = 9;
+  lists = record { name = codes "s"; kind = kinds.Source [] } ∷ [];
+  listeners = record { name = codes "e"; list = 0; after = []; echo = true } ∷ [];
+  writers = ((Add 0 (num (pos 1)) ∷ []) ∷ []) ∷ [];
+}
+
+echoed_told :
+    (run echoed (Writer 0 ∷ [])).told
+    ≡ record { listener = 0; place = 0; delta = inserted (num (pos 1)) ∷ []; write_backs = 1 } ∷ []
+echoed_told = refl

@@ -9,11 +9,10 @@ use Rattle.spec_lists.proofs.Editing.{identity_normal, around_normal, identity_l
 use Rattle.gl_lines.specs.declared.plan.Command.{Command}
 use Rattle.gl_lines.specs.declared.plan.Command.TheVariants as c
 use Rattle.gl_lines.specs.declared.reply.Reply.TheVariants.{OutOfRange}
-use Rattle.spec_plans.specs.Plan.{origin}
-use Rattle.spec_states.specs.State.{State, source, own_at}
+use Rattle.spec_states.specs.State.{source}
 use Rattle.spec_views.specs.Source.{element_at}
 use Rattle.spec_states.specs.Wave.{edit, edited}
-use Rattle.spec_states.specs.Step.{refusal, out_of_range, past_end}
+use Rattle.spec_states.specs.Step.{refused_by, out_of_range, past_end}
 
 pub in_range : (index len : ℕ) → out_of_range index len ≡ None → index < len
 in_range index len e = by_test (nat_lt index len) refl e
@@ -30,33 +29,33 @@ not_past index len e = by_test (nat_le index len) refl e
     by_test false h none = absurd cc
 
 -- a command that the state doesn't refuse edits the contents as its edit tells
-pub edit_leads : (s : State) (command : Command) (xs : List Tree) → own_at s (origin command) ≡ source xs → refusal s command ≡ None → IsDelta (edit command xs) xs (edited command xs)
-edit_leads s (c.Add list value) xs is none =
+pub edit_leads : (command : Command) (xs : List Tree) → refused_by (source xs) command ≡ None → IsDelta (edit command xs) xs (edited command xs)
+edit_leads (c.Add list value) xs none =
     let h = insert_leads xs (length xs) (length xs - length xs) value (omega arith) in
     record { starts = h.starts; ends = insert_last xs value ∙ h.ends }
-edit_leads s (c.AddAll list values) xs is none = append_leads xs values
-edit_leads s (c.Insert list index value) xs is none =
-    let within : index ≤ length xs = not_past index (length xs) (rw is at none) in
+edit_leads (c.AddAll list values) xs none = append_leads xs values
+edit_leads (c.Insert list index value) xs none =
+    let within : index ≤ length xs = not_past index (length xs) none in
     insert_leads xs index (length xs - index) value (omega (arith, within))
-edit_leads s (c.Set list index value) xs is none =
-    let within : index < length xs = in_range index (length xs) (rw is at none) in
+edit_leads (c.Set list index value) xs none =
+    let within : index < length xs = in_range index (length xs) none in
     set_leads xs index (length xs - suc index) value (omega (arith, within))
-edit_leads s (c.Remove list index) xs is none =
-    let within : index < length xs = in_range index (length xs) (rw is at none) in
+edit_leads (c.Remove list index) xs none =
+    let within : index < length xs = in_range index (length xs) none in
     remove_leads xs index (length xs - suc index) (omega (arith, within))
-edit_leads s (c.Clear list) xs is none = clear_leads xs
-edit_leads s (c.Match list matcher) xs is none = identity_leads xs
-edit_leads s (c.Order list order) xs is none = identity_leads xs
-edit_leads s (c.Bounds list bounds) xs is none = identity_leads xs
-edit_leads s (c.Apply list func) xs is none = identity_leads xs
-edit_leads s (c.Attach list member) xs is none = identity_leads xs
-edit_leads s (c.Detach list index) xs is none = identity_leads xs
-edit_leads s (c.Begin list) xs is none = identity_leads xs
-edit_leads s (c.Commit list) xs is none = identity_leads xs
-edit_leads s (c.Rollback list) xs is none = identity_leads xs
-edit_leads s (c.Freeze list) xs is none = identity_leads xs
-edit_leads s (c.Thaw list) xs is none = identity_leads xs
-edit_leads s (c.Show list) xs is none = identity_leads xs
+edit_leads (c.Clear list) xs none = clear_leads xs
+edit_leads (c.Match list matcher) xs none = identity_leads xs
+edit_leads (c.Order list order) xs none = identity_leads xs
+edit_leads (c.Bounds list bounds) xs none = identity_leads xs
+edit_leads (c.Apply list func) xs none = identity_leads xs
+edit_leads (c.Attach list member) xs none = identity_leads xs
+edit_leads (c.Detach list index) xs none = identity_leads xs
+edit_leads (c.Begin list) xs none = identity_leads xs
+edit_leads (c.Commit list) xs none = identity_leads xs
+edit_leads (c.Rollback list) xs none = identity_leads xs
+edit_leads (c.Freeze list) xs none = identity_leads xs
+edit_leads (c.Thaw list) xs none = identity_leads xs
+edit_leads (c.Show list) xs none = identity_leads xs
 
 pub edit_normal : (command : Command) (xs : List Tree) → IsNormal (edit command xs)
 edit_normal (c.Add list value) xs = around_normal (length xs) (length xs - length xs) (inserted value)

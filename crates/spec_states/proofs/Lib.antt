@@ -2,4 +2,13 @@ pub mod Turns
 pub mod Settling
 pub mod Views
 pub mod Edits
+pub mod Kept
+pub mod Begun
+pub mod Told
+pub mod Standing
+pub mod Sound
 pub mod Waves
+pub mod Plain
+pub mod Openings
+pub mod Held
+pub mod Quiet

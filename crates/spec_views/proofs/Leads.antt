@@ -2,9 +2,9 @@
 use Rattle.std.proofs.Common.{◌≡◌, ◌∙◌, ℕ, suc, Bool, true, false, List, [], ◌∷◌, refl, ap, sym, subst}
 use Rattle.std.specs.Prelude.{filter}
 use Rattle.spec_value.specs.Tree.{Tree}
-use Rattle.spec_lists.specs.Piece.{Piece, kept, updated, deleted, inserted, normal}
+use Rattle.spec_lists.specs.Piece.{Piece, kept, updated, deleted, inserted}
 use Rattle.spec_lists.specs.Leads.{LeadsFrom, applied, IsDelta}
-use Rattle.spec_lists.proofs.Leading.{leads_normal}
+use Rattle.spec_lists.proofs.Leading.{normal_leads}
 use Rattle.spec_views.specs.Chosen.{Choice, chosen, chosen_from, told_of_pair, told_of_old, told_of_new, told_from, follow_chosen}
 use Rattle.spec_views.specs.Filter.{by_value, filter_view, filter_follow}
 
@@ -66,12 +66,6 @@ told_leads before after i j (x ∷ xs) (deleted v ∷ ps) h =
 told_leads before after i j xs (inserted w ∷ ps) h =
     between (inserted_leads (after j w) w _ _ _ (told_leads before after i (suc j) xs ps h))
     refl (chosen_first after j w (applied ps xs))
-
--- normal form leads between the same lists
-normal_leads : (ps : List Piece) (xs ys : List Tree) → IsDelta ps xs ys → IsDelta (normal ps) xs ys
-normal_leads ps xs ys h =
-    let plain = leads_normal ps xs h.starts in
-    record { starts = plain.0; ends = h.ends ∙ sym plain.1 }
 
 -- the change of a list that shows chosen elements leads from what it showed to what it shows
 pub chosen_leads : (before after : Choice) (ps : List Piece) (xs ys : List Tree) → IsDelta ps xs ys → IsDelta (follow_chosen before after xs ps) (chosen before xs) (chosen after ys)

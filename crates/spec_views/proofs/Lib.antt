@@ -1,3 +1,12 @@
 pub mod Leads
 pub mod Single
 pub mod Following
+pub mod Placing
+pub mod Arranging
+pub mod Composites
+pub mod Same
+pub mod SameSorted
+pub mod SameClasses
+pub mod SameChildren
+pub mod Views
+pub mod SameKeys

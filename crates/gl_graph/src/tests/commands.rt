@@ -1,8 +1,9 @@
 //! Commands for the four lists of a small plan.
 
-ghost use Rattle.std.specs.Prelude.{◌≡◌, ◌<◌, length, IsTrue, IfSome};
+ghost use Rattle.std.specs.Prelude.{◌≡◌, ◌<◌, ◌≤◌, length, IsTrue, IfSome};
 ghost use Rattle.spec_plans.specs.Plan.{origin};
-ghost use Rattle.spec_states.specs.State.{own_at, opening, opening_of};
+ghost use Rattle.spec_states.specs.State.{own_at, opening_of};
+ghost use Rattle.spec_states.specs.Opening.{opening, shown_first};
 ghost use Rattle.gl_graph.specs.Commands.{Suits, IsEdit};
 
 use super::{above_one, add, planned, plus, range, source, ten_more};
@@ -22,7 +23,10 @@ pub(super) const ALL: u32 = 2;
 const LAST: u32 = 3;
 
 // The numbers 1, 2 and 3, those of them above one, ten more than each of these, and the last two of all.
-pub(super) fn four(rt: &(impl Abort + AllocGlobal), limit: u64) -> Plan {
+pub(super) fn four(rt: &(impl Abort + AllocGlobal), limit: u64) -> Plan
+    requires some { 0 < limit }
+    requires few { limit ≤ 16777216 }
+{
     let mut lines = Items::new(rt.alloc());
     add(rt, &mut lines, Line::Limit { limit });
     ten_more(rt, &mut lines, b"more", b"large");
@@ -123,8 +127,8 @@ fn is_edit(command: &Command) -> bool
     }
 }
 
-fn suits(command: &Command, kind: &ListKind) -> bool
-    ensures { IsTrue result → Suits command.now (opening_of kind.now) }
+fn suits(_plan: &Plan, command: &Command, kind: &ListKind) -> bool
+    ensures { IsTrue result → Suits command.now (opening_of (shown_first _plan.now) kind.now) }
 {
     match kind {
         ListKind::Source { .. } => is_edit(command),
@@ -142,7 +146,7 @@ pub(super) fn fits(plan: &Plan, command: &Command) -> bool
 {
     match about(command) {
         Some(list) => match plan.lists().get(list as usize) {
-            Some(declared) => suits(command, &declared.kind),
+            Some(declared) => suits(plan, command, &declared.kind),
             None => false,
         },
         None => false,

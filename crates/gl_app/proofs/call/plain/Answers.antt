@@ -1,7 +1,7 @@
 use Rattle.std.proofs.Common.{◌-◌, length, sym, subst}
 use Rattle.gl_app.specs.Answer.{text_at}
 use Rattle.gl_app.specs.Call.{IsAhead}
-use Rattle.gl_app.proofs.CallLaws.{is_answer, quiet_answer, reports_run, writes_plan, usage_without_form, not_ahead, room_for}
+use Rattle.gl_app.proofs.CallLaws.{is_answer, quiet_answer, reports_run, writes_plan, usage_without_form, not_ahead, read_by_status, room_for}
 use Rattle.gl_app.proofs.call.plain.Goals as goal
 
 pub returns-in-Ok-clause-answer : goal.returns-in-Ok-clause-answer
@@ -27,6 +27,10 @@ returns-in-Ok-clause-headline g c = λ order asks done. reports_run c.args.words
 pub returns-in-Ok-clause-written : goal.returns-in-Ok-clause-written
 returns-in-Ok-clause-written g c = writes_plan c.args.words.now _ _ _ c.give.result
     (is_answer c.args.words.now _ _ _ c.in-Ok.answer c.give.result c.in-Ok.ensures.answer c.give.ensures.given)
+
+pub returns-in-Ok-clause-reading : goal.returns-in-Ok-clause-reading
+returns-in-Ok-clause-reading g c = read_by_status _ _ _ _ c.in-Ok.answer c.give.result c.give.ensures.given
+    c.in-Ok.ensures.reading
 
 pub returns-in-Ok-clause-usage : goal.returns-in-Ok-clause-usage
 returns-in-Ok-clause-usage g c = usage_without_form c.args.words.now _ _ _ c.give.result

@@ -1,5 +1,19 @@
+use Rattle.std.proofs.Common.{rules, ◌≡◌, true, false}
+use Rattle.std.specs.Prelude.{is_some}
+use Rattle.gl_app.specs.Words.{asked}
 use Rattle.gl_app.proofs.CallLaws.{usage_answer}
+use Rattle.gl_app.proofs.WordLaws.{formed, unformed}
 use Rattle.gl_app.proofs.outcome.answer_words.Goals as goal
+
+pub returns-then-not-have_form-clause-answer : goal.returns-then-not-have_form-clause-answer
+returns-then-not-have_form-clause-answer g c =
+    let none : is_some (asked c.args.words.now) ≡ false = search rules in
+    usage_answer c.args.words.now (g.S.Source.remaining c.args.source.now) (unformed c.args.words.now none)
+
+pub returns-in_err-read_words-clause-no_form : goal.returns-in_err-read_words-clause-no_form
+returns-in_err-read_words-clause-no_form g c =
+    let some : is_some (asked c.args.words.now) ≡ true = search rules in
+    λ none. absurd (formed c.args.words.now some none)
 
 pub returns-in-None-clause-answer : goal.returns-in-None-clause-answer
 returns-in-None-clause-answer g c =

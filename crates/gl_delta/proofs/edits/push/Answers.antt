@@ -1,10 +1,12 @@
-use Rattle.std.proofs.Common.{◌≡◌, ◌∙◌, true, false, List, sym, subst}
+use Rattle.std.proofs.Common.{◌≡◌, ◌∙◌, true, false, List, length, take, sym, subst, arith}
+use Rattle.std.proofs.lemmas.List.{take_all}
 use Rattle.std.proofs.lemmas.Result.{on_ok_weaker}
-use Rattle.spec_lists.specs.Piece.{Piece}
+use Rattle.spec_lists.specs.Piece.{Piece, IsNormal}
 use Rattle.gl_delta.specs.declared.mark.Side.TheVariants.{New}
 use Rattle.gl_delta.specs.Marks.{piece_of, IsOn}
 use Rattle.gl_delta.specs.Pieces.{pieces, IsPushed}
-use Rattle.gl_delta.proofs.PushLemmas.{pushed_new, selected_end, end_parts, pushed_deleted}
+use Rattle.gl_delta.proofs.SettleLemmas.{IsRun}
+use Rattle.gl_delta.proofs.PushLemmas.{pushed_new, pushed_deleted}
 use Rattle.gl_delta.proofs.edits.push.Goals as goal
 
 pub returns-then-is_on-clause-ok : goal.returns-then-is_on-clause-ok
@@ -14,20 +16,16 @@ returns-then-is_on-clause-ok c =
     let P : List Piece → Type 0 = IsPushed ps (piece_of c.args.change) in
     on_ok_weaker c.append.result (λ e. subst P (sym e) (pushed_new ps c.args.change c.requires.normal test)) c.append.ensures.ok
 
-pub settle-requires-clause-front : goal.settle-requires-clause-front
-settle-requires-clause-front c =
+pub run_start-place-requires-clause-front : goal.run_start-place-requires-clause-front
+run_start-place-requires-clause-front c =
     let ps = pieces c.args.store.now in
-    let test : IsOn New c.args.change ≡ false = sym c.is_on.ensures ∙ c.if-is_on.false in
-    let parts = end_parts ps (pieces c.append-2.new.self) c.select-end.result c.args.change (selected_end ps c.args.news c.select-end.result c.requires.news c.select-end.ensures) c.requires.normal test c.in_ok-append.ensures.ok in parts.0
-
-pub settle-requires-clause-back : goal.settle-requires-clause-back
-settle-requires-clause-back c =
-    let ps = pieces c.args.store.now in
-    let test : IsOn New c.args.change ≡ false = sym c.is_on.ensures ∙ c.if-is_on.false in
-    let parts = end_parts ps (pieces c.append-2.new.self) c.select-end.result c.args.change (selected_end ps c.args.news c.select-end.result c.requires.news c.select-end.ensures) c.requires.normal test c.in_ok-append.ensures.ok in parts.1
+    let N : List Piece → Type 0 = IsNormal in
+    subst N (sym (take_all c.len.result ps (omega (arith, c.len.ensures)))) c.requires.normal
 
 pub returns-clause-ok : goal.returns-clause-ok
 returns-clause-ok c =
     let ps = pieces c.args.store.now in
+    let test : IsOn New c.args.change ≡ false = sym c.is_on.ensures ∙ c.if-is_on.false in
+    let r : IsRun ps c.run_start-place.result c.len.result = record { within = c.run_start-place.ensures.within; run = c.run_start-place.ensures.run; before = c.run_start-place.ensures.before } in
     let P : List Piece → Type 0 = IsPushed ps (piece_of c.args.change) in
-    subst P (sym c.settle.ensures.value) (pushed_deleted ps (pieces c.append-2.new.self) c.args.change c.in_ok-append.ensures.ok)
+    on_ok_weaker c.put.result (λ e. subst P (sym e) (pushed_deleted ps c.args.change c.run_start-place.result c.len.result c.len.ensures c.requires.normal test r)) c.put.ensures.ok

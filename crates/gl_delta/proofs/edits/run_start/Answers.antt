@@ -1,25 +1,41 @@
-use Rattle.std.proofs.Common.{◌≡◌, ◌∙◌, ◌-◌, ℕ, suc, true, false, take, drop, slice_get, sym, subst, arith}
-use Rattle.spec_lists.specs.Piece.{IsNormal}
-use Rattle.gl_delta.specs.Pieces.{pieces, AllInserted, EndsUninserted, is_inserted_piece}
-use Rattle.gl_delta.proofs.FormLemmas.{ends_at, normal_take}
-use Rattle.gl_delta.proofs.SettleLemmas.{run_more}
+use Rattle.std.proofs.Common.{◌≡◌, ◌∙◌, ◌+◌, ◌<◌, ℕ, suc, take, drop, sym, subst, arith}
+use Rattle.std.proofs.Math.Numerals.{add-one}
+use Rattle.gl_delta.specs.Pieces.{pieces}
+use Rattle.gl_delta.proofs.SettleLemmas.{IsRun, old_len-take, run_from_start, run_behind}
 use Rattle.gl_delta.proofs.edits.run_start.Goals as goal
 
-pub loop-start-preserved : goal.loop-start-preserved
-loop-start-preserved c =
-    let ps = pieces c.args.store.now in
-    let s = c.loop-start.start - 1 in
-    let on : suc s ≡ c.loop-start.start = omega arith in
-    let A : ℕ → Type 0 = λ k. AllInserted (take (c.args.end - k) (drop k ps)) in
-    let test : is_inserted_piece (slice_get ps s) ≡ true = sym c.is_inserted.ensures ∙ c.if-is_inserted.true in
-    record { order = omega arith; run = run_more ps s c.args.end (omega arith) test (subst A (sym on) c.loop-start.invariant.run) }
+pub returns-then-olds-eq0-clause-run : goal.returns-then-olds-eq0-clause-run
+returns-then-olds-eq0-clause-run c = (run_from_start (pieces c.args.store.now) c.args.end (sym c.rank-olds.ensures ∙ c.if-olds-eq0.true)).run
 
-pub returns-else-is_inserted-clause-before : goal.returns-else-is_inserted-clause-before
-returns-else-is_inserted-clause-before c =
+pub select-requires : goal.select-requires
+select-requires c = omega (arith, c.rank-olds.ensures, old_len-take (pieces c.args.store.now) c.args.end)
+
+pub overflow_add-result : goal.overflow_add-result
+overflow_add-result c =
     let ps = pieces c.args.store.now in
-    let s = c.loop-start.start - 1 in
-    let on : suc s ≡ c.loop-start.start = omega arith in
-    let test : is_inserted_piece (slice_get ps s) ≡ false = sym c.is_inserted.ensures ∙ c.if-is_inserted.false in
-    let E : ℕ → Type 0 = λ k. EndsUninserted (take k ps) in
-    let front : IsNormal (take (suc s) ps) = normal_take ps (suc s) c.args.end (omega arith) c.requires.front in
-    subst E on (ends_at ps s (omega arith) front test)
+    let some : 0 < c.rank-olds.result = omega (arith, c.if-olds-eq0.false) in
+    let r = run_behind ps c.select.result c.rank-olds.result c.args.end c.requires.within c.requires.front some c.rank-olds.ensures c.select.ensures in
+    omega (arith, r.within, c.ranges.end.fits)
+
+pub returns-clause-within : goal.returns-clause-within
+returns-clause-within c =
+    let ps = pieces c.args.store.now in
+    let some : 0 < c.rank-olds.result = omega (arith, c.if-olds-eq0.false) in
+    let r = run_behind ps c.select.result c.rank-olds.result c.args.end c.requires.within c.requires.front some c.rank-olds.ensures c.select.ensures in
+    omega (arith, r.within)
+
+pub returns-clause-run : goal.returns-clause-run
+returns-clause-run c =
+    let ps = pieces c.args.store.now in
+    let some : 0 < c.rank-olds.result = omega (arith, c.if-olds-eq0.false) in
+    let r = run_behind ps c.select.result c.rank-olds.result c.args.end c.requires.within c.requires.front some c.rank-olds.ensures c.select.ensures in
+    let P : ℕ → Type 0 = λ k. IsRun ps k c.args.end in
+    (subst P (sym (add-one c.select.result)) r).run
+
+pub returns-clause-before : goal.returns-clause-before
+returns-clause-before c =
+    let ps = pieces c.args.store.now in
+    let some : 0 < c.rank-olds.result = omega (arith, c.if-olds-eq0.false) in
+    let r = run_behind ps c.select.result c.rank-olds.result c.args.end c.requires.within c.requires.front some c.rank-olds.ensures c.select.ensures in
+    let P : ℕ → Type 0 = λ k. IsRun ps k c.args.end in
+    (subst P (sym (add-one c.select.result)) r).before

@@ -1,11 +1,18 @@
-use Rattle.std.proofs.Common.{◌∙◌, ap, arith}
-use Rattle.gl_delta.specs.Plain.{new_count, plain_place_in}
-use Rattle.gl_delta.proofs.PlainLemmas.{new_count-cells, found_is}
+use Rattle.std.proofs.Common.{◌≡◌, ◌∙◌, ap, sym}
+use Rattle.std.specs.Prelude.{Some}
+use Rattle.spec_lists.specs.Sides.{news}
+use Rattle.gl_delta.specs.Told.{Told}
+use Rattle.gl_delta.specs.Part.{plain_place}
+use Rattle.gl_delta.specs.Pieces.{pieces}
+use Rattle.gl_delta.proofs.PlainLemmas.{place_is, no_place}
 use Rattle.gl_delta.proofs.plain.plain_place.Goals as goal
 
-pub place-requires : goal.place-requires
-place-requires c =
-    omega (arith, ap new_count c.cells.ensures.cells, new_count-cells c.args.delta.now.pieces, c.new_len-few.ensures.value, c.new_len-few.ensures.few)
+pub returns-in-Some : goal.returns-in-Some
+returns-in-Some c =
+    let same : pieces c.delta.inside.store ≡ c.args.delta.now.pieces = ap (λ (t : Told). t.pieces) c.delta.view_is in
+    ap Some c.rank.ensures ∙ (sym (place_is (pieces c.delta.inside.store) c.args.k c.in-Some.found 0 c.in-Some.ensures.got c.in-Some.ensures.before) ∙ ap (λ ps. plain_place (news 0 ps) c.args.k) same)
 
-pub returns : goal.returns
-returns c = c.place.ensures ∙ (ap (plain_place_in 0 c.args.k) c.cells.ensures.cells ∙ found_is c.args.delta.now.pieces c.args.k)
+pub returns-in-None : goal.returns-in-None
+returns-in-None c =
+    let same : pieces c.delta.inside.store ≡ c.args.delta.now.pieces = ap (λ (t : Told). t.pieces) c.delta.view_is in
+    sym (no_place (pieces c.delta.inside.store) c.args.k 0 c.in-None.ensures) ∙ ap (λ ps. plain_place (news 0 ps) c.args.k) same

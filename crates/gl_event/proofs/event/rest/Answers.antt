@@ -1,9 +1,7 @@
 use Rattle.std.proofs.Common.{◌∙◌, ap, arith}
 use Rattle.spec_lists.specs.Changes.{after_changes}
-use Rattle.gl_delta.specs.Plain.{new_count}
-use Rattle.gl_event.specs.Changes.{changes_in}
-use Rattle.gl_delta.proofs.PlainLemmas.{new_count-cells}
-use Rattle.gl_event.proofs.CellLemmas.{changes_cells}
+use Rattle.gl_event.specs.Changes.{changes_in, new_count}
+use Rattle.gl_event.proofs.CellLemmas.{changes_cells, new_count-cells}
 use Rattle.gl_event.proofs.BlockLemmas.{changes_left, new_len-standing}
 use Rattle.gl_event.proofs.event.rest.Goals as goal
 

@@ -1,16 +1,17 @@
-use Rattle.std.proofs.Common.{◌≡◌, ◌∙◌, ◌++◌, ◌+◌, ◌≤◌, length, map, drop, ap, sym, arith}
+use Rattle.std.proofs.Common.{◌≡◌, ◌∙◌, ◌++◌, ◌+◌, ◌≤◌, length, drop, ap, sym, arith}
 use Rattle.spec_lists.specs.Piece.{old_len, normal}
 use Rattle.spec_lists.specs.Cells.{pieces_in}
 use Rattle.spec_lists.proofs.Normal.{normal_is}
 use Rattle.spec_lists.proofs.Changing.{old_len-append}
 use Rattle.spec_lang.specs.Matcher.{accepts}
 use Rattle.gl_delta.specs.Cells.{cell_ref, cells_rest}
-use Rattle.gl_kernel.specs.Fates.{fate, edits_of}
+use Rattle.gl_kernel.specs.Fates.{edits_of}
 use Rattle.gl_kernel.specs.Spread.{spread}
-use Rattle.gl_kernel.proofs.Spreading.{spread-cells, told_more, edits_more}
+use Rattle.gl_kernel.proofs.Spreading.{spread-cells, told_more}
 use Rattle.gl_kernel.proofs.Making.{append_nothing}
-use Rattle.gl_filter.specs.Told.{told_marks, asked}
+use Rattle.gl_filter.specs.Told.{told_marks, fates, asked}
 use Rattle.gl_filter.proofs.Telling.{asked-append, whole_split, can_tell}
+use Rattle.gl_filter.proofs.Marking.{fates_more}
 use Rattle.gl_filter.proofs.follow.follow.Goals as goal
 
 pub loop-cell-init : goal.loop-cell-init
@@ -23,8 +24,8 @@ loop-cell-init g c =
     record {
       told = ap (λ qs. normal (qs ++ told_marks acc (drop place shown) left)) c.new-plan.ensures.out
           ∙ (ap (λ i. normal (told_marks acc (drop i shown) left)) c.new-plan.ensures.place ∙ ap (λ qs. normal (told_marks acc shown qs)) all);
-      edits = ap (λ es. es ++ edits_of place (map (fate acc) left)) c.new-plan.ensures.log
-          ∙ (ap (λ i. edits_of i (map (fate acc) left)) c.new-plan.ensures.place ∙ ap (λ qs. edits_of 0 (map (fate acc) qs)) all);
+      edits = ap (λ es. es ++ edits_of place (fates acc (drop place shown) left)) c.new-plan.ensures.log
+          ∙ (ap (λ i. edits_of i (fates acc (drop i shown) left)) c.new-plan.ensures.place ∙ ap (λ qs. edits_of 0 (fates acc shown qs)) all);
       place = omega (arith, c.new-plan.ensures.place, ap old_len all, c.requires);
       counted = omega (arith, ap asked all);
     }
@@ -65,12 +66,12 @@ loop-cell-preserved g c =
     let left = ap (λ ps. normal (out ++ told_marks acc (drop place shown) ps)) (sym split) ∙ c.loop-cell.invariant.told in
     let all = normal (told_marks acc shown c.args.d.now.pieces) in
     let whole = whole_split acc shown place qs rest out all within left in
-    let edits = ap (λ ps. c.loop-cell.plan.log.items ++ edits_of place (map (fate acc) ps)) (sym split) ∙ c.loop-cell.invariant.edits in
+    let edits = ap (λ ps. c.loop-cell.plan.log.items ++ edits_of place (fates acc (drop place shown) ps)) (sym split) ∙ c.loop-cell.invariant.edits in
     record {
       told = ap (λ i. normal (more ++ told_marks acc (drop i shown) rest)) c.in_ok-step.ensures.ok.place_is
           ∙ told_more all out more (told_marks acc (drop place shown) qs) (told_marks acc (drop (place + old_len qs) shown) rest) whole c.in_ok-step.ensures.ok.told_is;
-      edits = edits_more acc (edits_of 0 (map (fate acc) c.args.d.now.pieces)) c.loop-cell.plan.log.items c.step.new.plan.log.items qs rest place c.step.new.plan.place
-          edits c.in_ok-step.ensures.ok.edits_are c.in_ok-step.ensures.ok.place_is;
+      edits = fates_more acc shown (edits_of 0 (fates acc shown c.args.d.now.pieces)) c.loop-cell.plan.log.items c.step.new.plan.log.items qs rest place c.step.new.plan.place
+          within edits c.in_ok-step.ensures.ok.edits_are c.in_ok-step.ensures.ok.place_is;
       place = omega (arith, c.loop-cell.invariant.place, ap old_len split, old_len-append qs rest, c.in_ok-step.ensures.ok.place_is);
       counted = omega (arith, c.loop-cell.invariant.counted, ap asked split, asked-append qs rest, c.in_ok-step.ensures.counted);
     }

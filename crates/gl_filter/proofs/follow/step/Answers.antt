@@ -1,4 +1,4 @@
-use Rattle.std.proofs.Common.{◌∙◌, ◌∷◌, [], ◌++◌, ◌+◌, ◌≤◌, List, length, map, drop, ap, sym, subst, arith}
+use Rattle.std.proofs.Common.{◌∙◌, ◌∷◌, [], ◌++◌, ◌+◌, ◌≤◌, List, length, drop, ap, sym, subst, arith}
 use Rattle.spec_lists.specs.Piece.{Piece, updated, old_len, normal}
 use Rattle.spec_lists.specs.Cells.{pieces_in}
 use Rattle.spec_lists.proofs.Lengths.{old_len-identity}
@@ -6,14 +6,13 @@ use Rattle.spec_lang.specs.Matcher.{accepts}
 use Rattle.spec_views.specs.Chosen.{told_of_pair}
 use Rattle.gl_delta.specs.declared.cell.CellRef.{CellRef}
 use Rattle.gl_delta.specs.Cells.{cell_ref}
-use Rattle.gl_kernel.specs.declared.edit.Edit.TheVariants.{Set}
-use Rattle.gl_kernel.specs.Fates.{fate, edits_of}
+use Rattle.gl_kernel.specs.Fates.{edits_of}
 use Rattle.gl_kernel.specs.Plans.{CanTell}
-use Rattle.gl_kernel.proofs.Spreading.{no_edits}
 use Rattle.gl_kernel.proofs.Making.{append_nothing}
-use Rattle.gl_filter.specs.Told.{told_marks, asked}
+use Rattle.gl_filter.specs.Told.{told_marks, switch, fates, asked}
 use Rattle.gl_filter.proofs.Telling.{asked-keeps}
 use Rattle.gl_filter.proofs.Showing.{keep_told, ranks_grow, update_told, delete_told}
+use Rattle.gl_filter.proofs.Marking.{no_edits_kept, update_edits, delete_edits}
 use Rattle.gl_filter.proofs.follow.step.Goals as goal
 
 pub overflow_add-place : goal.overflow_add-place
@@ -76,15 +75,15 @@ returns-in_ok-tell-in-Keep-clause-ok g c =
     let told = ap (told_marks acc (drop place bs)) is ∙ keep_told acc bs place n c.rank-in-Keep.result c.rank.result within c.rank-in-Keep.ensures c.rank.ensures in
     record {
       told_is = c.in_ok-tell-in-Keep.ensures ∙ ap (λ qs. normal (c.args.plan.now.out.pieces ++ qs)) (sym told);
-      edits_are = sym (ap (λ es. c.args.plan.now.log.items ++ es) (ap (λ qs. edits_of place (map (fate acc) qs)) is ∙ no_edits acc n place) ∙ append_nothing c.args.plan.now.log.items);
+      edits_are = sym (ap (λ es. c.args.plan.now.log.items ++ es) (ap (λ qs. edits_of place (fates acc (drop place bs) qs)) is ∙ no_edits_kept acc (drop place bs) n place) ∙ append_nothing c.args.plan.now.log.items);
       place_is = omega (arith, ap old_len is, old_len-identity n);
     }
 
 pub returns-in_ok-tell-in-Keep-clause-counted : goal.returns-in_ok-tell-in-Keep-clause-counted
 returns-in_ok-tell-in-Keep-clause-counted g c = omega (arith, ap (λ (k : CellRef). asked (pieces_in (cell_ref k))) c.in-Keep.is, asked-keeps c.in-Keep.n)
 
-pub returns-in_ok-push-in-Update-clause-ok : goal.returns-in_ok-push-in-Update-clause-ok
-returns-in_ok-push-in-Update-clause-ok g c =
+pub returns-in_ok-note-in-Update-clause-ok : goal.returns-in_ok-note-in-Update-clause-ok
+returns-in_ok-note-in-Update-clause-ok g c =
     let bs = c.args.marks.now.shown in
     let place = c.args.plan.now.place in
     let acc = accepts c.args.matcher.now in
@@ -93,10 +92,11 @@ returns-in_ok-push-in-Update-clause-ok g c =
     let is = ap (λ (k : CellRef). pieces_in (cell_ref k)) c.in-Update.is in
     let told = ap (told_marks acc (drop place bs)) is
     ∙ (update_told acc bs place c.shown-was.result v w c.shown-was.ensures ∙ ap (λ b. told_of_pair c.shown-was.result b (updated v w) v w []) (sym c.accepts-is.ensures.value)) in
-    let edits = ap (λ qs. edits_of place (map (fate acc) qs)) is ∙ ap (λ b. Set place b ∷ []) (sym c.accepts-is.ensures.value) in
+    let edits = ap (λ qs. edits_of place (fates acc (drop place bs) qs)) is
+    ∙ (update_edits acc bs place c.shown-was.result v w c.shown-was.ensures ∙ ap (λ b. edits_of place (switch c.shown-was.result b ∷ [])) (sym c.accepts-is.ensures.value)) in
     record {
       told_is = c.in_ok-tell_update-in-Update.ensures ∙ ap (λ qs. normal (c.args.plan.now.out.pieces ++ qs)) (sym told);
-      edits_are = c.in_ok-push-in-Update.ensures.items ∙ ap (λ es. c.args.plan.now.log.items ++ es) (sym edits);
+      edits_are = c.in_ok-note-in-Update.ensures ∙ ap (λ es. c.args.plan.now.log.items ++ es) (sym edits);
       place_is = ap (λ k. place + k) (sym (ap old_len is));
     }
 
@@ -110,6 +110,6 @@ returns-in_ok-push-in-Delete-clause-ok g c =
     let told = ap (told_marks acc (drop place bs)) is ∙ delete_told acc bs place c.shown.result v c.shown.ensures in
     record {
       told_is = c.in_ok-tell_delete-in-Delete.ensures ∙ ap (λ qs. normal (c.args.plan.now.out.pieces ++ qs)) (sym told);
-      edits_are = c.in_ok-push-in-Delete.ensures.items ∙ ap (λ es. c.args.plan.now.log.items ++ es) (sym (ap (λ qs. edits_of place (map (fate acc) qs)) is));
+      edits_are = c.in_ok-push-in-Delete.ensures.items ∙ ap (λ es. c.args.plan.now.log.items ++ es) (sym (ap (λ qs. edits_of place (fates acc (drop place bs) qs)) is ∙ delete_edits acc bs place c.shown.result v c.shown.ensures));
       place_is = ap (λ k. place + k) (sym (ap old_len is));
     }

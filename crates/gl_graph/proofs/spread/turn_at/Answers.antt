@@ -1,5 +1,5 @@
 use Rattle.std.proofs.Common.{◌≡◌, ◌∙◌, ◌++◌, take, ap, sym, subst}
-use Rattle.std.specs.Prelude.{slice_index_or}
+use Rattle.std.specs.Prelude.{Some, slice_index_or}
 use Rattle.gl_graph.specs.declared.node.Node.{Node}
 use Rattle.gl_graph.specs.Nodes.{shown_by, OnInput, IsPlaced, AreSettled}
 use Rattle.gl_graph.specs.Spread.{CanTurn}
@@ -20,8 +20,8 @@ turn-requires-clause-behind g c =
     let front_is : front ≡ take c.args.place nodes = c.split_at_mut-front.ensures.front ∙ ap (take c.args.place) c.deref_mut.ensures.value in
     let whole : nodes ≡ front ++ back = sym c.deref_mut.ensures.value ∙ c.split_at_mut-front.ensures.value in
     let first = first_back nodes front back c.args.place c.requires.node c.index-back-0.result whole c.split_at_mut-front.ensures.front_len c.requires.there in
-    subst (λ (n : Node). OnInput (IsPlaced front c.args.places.now) n.kernel) (sym first)
-    (subst (λ ns. OnInput (IsPlaced ns c.args.places.now) c.requires.node.kernel) (sym front_is) c.requires.behind)
+    subst (λ (n : Node). OnInput (IsPlaced front c.args.places.now) n.keeps) (sym first)
+    (subst (λ ns. OnInput (IsPlaced ns c.args.places.now) c.requires.node.keeps) (sym front_is) c.requires.behind)
 
 pub turn-requires-clause-can : goal.turn-requires-clause-can
 turn-requires-clause-can g c =
@@ -31,8 +31,8 @@ turn-requires-clause-can g c =
     let front_is : front ≡ take c.args.place nodes = c.split_at_mut-front.ensures.front ∙ ap (take c.args.place) c.deref_mut.ensures.value in
     let whole : nodes ≡ front ++ back = sym c.deref_mut.ensures.value ∙ c.split_at_mut-front.ensures.value in
     let first = first_back nodes front back c.args.place c.requires.node c.index-back-0.result whole c.split_at_mut-front.ensures.front_len c.requires.there in
-    subst (λ (n : Node). CanTurn (shown_by front c.args.places.now) c.args.command.now c.args.deltas.now n.list n.kernel) (sym first)
-    (subst (λ ns. CanTurn (shown_by ns c.args.places.now) c.args.command.now c.args.deltas.now c.requires.node.list c.requires.node.kernel) (sym front_is) c.requires.can)
+    subst (λ (n : Node). CanTurn (Some c.args.start) (shown_by front c.args.places.now) c.args.command.now c.args.deltas.now n.list n.keeps) (sym first)
+    (subst (λ ns. CanTurn (Some c.args.start) (shown_by ns c.args.places.now) c.args.command.now c.args.deltas.now c.requires.node.list c.requires.node.keeps) (sym front_is) c.requires.can)
 
 pub returns : goal.returns
 returns g c =
@@ -43,6 +43,6 @@ returns g c =
     let whole : nodes ≡ front ++ back = sym c.deref_mut.ensures.value ∙ c.split_at_mut-front.ensures.value in
     let first = first_back nodes front back c.args.place c.requires.node c.index-back-0.result whole c.split_at_mut-front.ensures.front_len c.requires.there in
     let e = c.turn.ensures in
-    tried_at c.args.places.now c.args.command.now c.args.deltas.now c.args.place c.args.nodes.now.len nodes front back c.requires.node (slice_index_or back 0 c.index-back-0.result) c.turn.new.self c.turn.result
+    tried_at (Some c.args.start) c.args.places.now c.args.command.now c.args.deltas.now c.args.place c.args.nodes.now.len nodes front back c.requires.node (slice_index_or back 0 c.index-back-0.result) c.turn.new.self c.turn.result
     whole front_is c.split_at_mut-front.ensures.front_len c.args.nodes.now.ok.0 c.requires.there first
     (record { ok = e.ok; err = e.err; stopped = e.stopped; room = e.room })

@@ -1,8 +1,8 @@
-use Rattle.std.proofs.Common.{ℕ, List, ◌≡◌, ◌<◌, length, slice_index_or, sym, rules, add-one, subst}
+use Rattle.std.proofs.Common.{ℕ, List, ◌≡◌, ◌<◌, length, slice_index_or, refl, sym, rules, add-one, subst}
 use Rattle.std.specs.Prelude.{Some, slice_get}
 use Rattle.std.proofs.lemmas.Option.{slice_get-get_or}
-use Rattle.spec_states.specs.State.{opening_of}
-use Rattle.spec_states.specs.Shown.{view}
+use Rattle.spec_states.specs.Shown.{shown_of}
+use Rattle.spec_states.specs.Opening.{seen_through}
 use Rattle.gl_graph.specs.Nodes.{shown_by, IsPlaced, AreSettled}
 use Rattle.gl_graph.specs.Opening.{IsBuilt}
 use Rattle.gl_graph.specs.Build.{IsOneMore, IsFault, AreOpenTo, IsReasonOf}
@@ -17,38 +17,38 @@ get_at xs ys k same within =
 pub bounds-turns-list : goal.bounds-turns-list
 bounds-turns-list g c =
     let t = c.args.turns.now in
-    let here = get_at c.as_slice.result.now t.order c.args.place c.as_slice.ensures c.requires.within in
-    next_within t.limit t.lists.now t.places.items t.order c.args.place (slice_index_or c.as_slice.result.now c.args.place 0) c.requires.ready here
+    let here = get_at t.order.now t.order.now c.args.place refl c.requires.within in
+    next_within t.limit t.lists.now t.places.items t.order.now c.args.place (slice_index_or t.order.now c.args.place 0) c.requires.ready here
 
 pub open_next-requires-clause-settled : goal.open_next-requires-clause-settled
 open_next-requires-clause-settled g c =
-    subst (λ ps. AreSettled c.args.nodes.now.items ps) (sym c.as_slice-2.ensures.value) c.requires.opened.settled
+    subst (λ ps. AreSettled c.args.nodes.now.items ps) (sym c.as_slice.ensures.value) c.requires.opened.settled
 
 pub open_next-requires-clause-built : goal.open_next-requires-clause-built
 open_next-requires-clause-built g c =
     let t = c.args.turns.now in
-    let list = slice_index_or c.as_slice.result.now c.args.place 0 in
+    let list = slice_index_or t.order.now c.args.place 0 in
     let d = slice_index_or t.lists.now list c.index-turns-list.result in
-    let here = get_at c.as_slice.result.now t.order c.args.place c.as_slice.ensures c.requires.within in
-    let within = next_within t.limit t.lists.now t.places.items t.order c.args.place list c.requires.ready here in
+    let here = get_at t.order.now t.order.now c.args.place refl c.requires.within in
+    let within = next_within t.limit t.lists.now t.places.items t.order.now c.args.place list c.requires.ready here in
     let there = slice_get-get_or t.lists.now list c.index-turns-list.result within in
-    subst (λ ps. IsBuilt (IsPlaced c.args.nodes.now.items ps) d.kind) (sym c.as_slice-2.ensures.value)
-    (next_built t.limit t.lists.now t.places.items t.order c.args.nodes.now.items c.args.place list d c.requires.ready c.requires.opened here there)
+    subst (λ ps. IsBuilt (IsPlaced c.args.nodes.now.items ps) d.kind) (sym c.as_slice.ensures.value)
+    (next_built t.limit t.lists.now t.places.items t.order.now c.args.nodes.now.items c.args.place list d c.requires.ready c.requires.opened here there)
 
 pub returns-in_err-open_next-clause-fault : goal.returns-in_err-open_next-clause-fault
 returns-in_err-open_next-clause-fault g c =
     let t = c.args.turns.now in
     let nodes = c.args.nodes.now.items in
-    let list = slice_index_or c.as_slice.result.now c.args.place 0 in
+    let list = slice_index_or t.order.now c.args.place 0 in
     let d = slice_index_or t.lists.now list c.index-turns-list.result in
     let fault = c.in_err-open_next.field-0.0 in
-    let here = get_at c.as_slice.result.now t.order c.args.place c.as_slice.ensures c.requires.within in
-    let within = next_within t.limit t.lists.now t.places.items t.order c.args.place list c.requires.ready here in
+    let here = get_at t.order.now t.order.now c.args.place refl c.requires.within in
+    let within = next_within t.limit t.lists.now t.places.items t.order.now c.args.place list c.requires.ready here in
     let there = slice_get-get_or t.lists.now list c.index-turns-list.result within in
-    let is : IsFault t.limit list (length (view (opening_of d.kind) (shown_by nodes t.places.items))) fault =
-    subst (λ ps. IsFault t.limit list (length (view (opening_of d.kind) (shown_by nodes ps))) fault) c.as_slice-2.ensures.value c.in_err-open_next.ensures.fault in
+    let is : IsFault t.limit list (length (shown_of (seen_through d.kind) (shown_by nodes t.places.items))) fault =
+    subst (λ ps. IsFault t.limit list (length (shown_of (seen_through d.kind) (shown_by nodes ps))) fault) c.as_slice.ensures.value c.in_err-open_next.ensures.fault in
     let reason : IsReasonOf t fault =
-    next_reason t.limit t.lists.now t.places.items t.order nodes c.args.place list d fault c.requires.ready c.requires.opened here there is in
+    next_reason t.limit t.lists.now t.places.items t.order.now nodes c.args.place list d fault c.requires.ready c.requires.opened here there is in
     search rules
 
 pub returns-clause-opened : goal.returns-clause-opened
@@ -56,12 +56,12 @@ returns-clause-opened g c =
     let t = c.args.turns.now in
     let nodes = c.args.nodes.now.items in
     let after = c.open_next.new.nodes.items in
-    let list = slice_index_or c.as_slice.result.now c.args.place 0 in
+    let list = slice_index_or t.order.now c.args.place 0 in
     let d = slice_index_or t.lists.now list c.index-turns-list.result in
-    let here = get_at c.as_slice.result.now t.order c.args.place c.as_slice.ensures c.requires.within in
-    let within = next_within t.limit t.lists.now t.places.items t.order c.args.place list c.requires.ready here in
+    let here = get_at t.order.now t.order.now c.args.place refl c.requires.within in
+    let within = next_within t.limit t.lists.now t.places.items t.order.now c.args.place list c.requires.ready here in
     let there = slice_get-get_or t.lists.now list c.index-turns-list.result within in
-    let more : IsOneMore t.limit t.places.items list (opening_of d.kind) nodes after =
-    subst (λ ps. IsOneMore t.limit ps list (opening_of d.kind) nodes after) c.as_slice-2.ensures.value c.in_ok-open_next.ensures.more in
+    let more : IsOneMore t.limit t.places.items list (seen_through d.kind) nodes after =
+    subst (λ ps. IsOneMore t.limit ps list (seen_through d.kind) nodes after) c.as_slice.ensures.value c.in_ok-open_next.ensures.more in
     subst (λ k. AreOpenTo t k after) (sym (add-one c.args.place))
-    (next_opened t.limit t.lists.now t.places.items t.order nodes after c.args.place list d c.requires.ready c.requires.opened here there more)
+    (next_opened t.limit t.lists.now t.places.items t.order.now nodes after c.args.place list d c.requires.ready c.requires.opened here there more)

@@ -1,26 +1,38 @@
-use Rattle.std.proofs.Common.{◌∙◌, length, sym, subst}
-use Rattle.gl_graph.specs.Places.{AreDistinct, ArePlaces}
-use Rattle.gl_graph.proofs.Starting.{within_edges, no_cycle, ready_by}
-use Rattle.gl_graph.proofs.Turning.{order_distinct}
+use Rattle.std.proofs.Common.{◌∙◌, length, ap, sym, subst}
+use Rattle.spec_states.specs.State.{edges_of}
+use Rattle.gl_graph.specs.Build.{AreReady, opened_lists}
+use Rattle.gl_graph.specs.Places.{AreBelow, ArePlaces}
+use Rattle.gl_graph.proofs.Starting.{plan_is_order, ready_of}
+use Rattle.gl_graph.proofs.Turning.{order_below, order_distinct}
 use Rattle.gl_graph.proofs.start.turns_of.Goals as goal
 
-pub order_in-requires-clause-within : goal.order_in-requires-clause-within
-order_in-requires-clause-within c =
-    within_edges c.args.lists.now c.as_slice.result.now c.requires.ordered (c.as_slice.ensures.value ∙ c.in_ok-edges.ensures)
+pub places_in-requires-clause-whole : goal.places_in-requires-clause-whole
+places_in-requires-clause-whole c =
+    let p = c.args.plan.now in
+    let lists = c.lists-lists.ensures in
+    (plan_is_order p c.list_order-order.result.now lists.plan c.list_order-order.ensures).whole ∙ ap length (sym lists.lists)
 
-pub order_in-requires-clause-acyclic : goal.order_in-requires-clause-acyclic
-order_in-requires-clause-acyclic c =
-    no_cycle c.args.lists.now c.as_slice.result.now c.requires.ordered (c.as_slice.ensures.value ∙ c.in_ok-edges.ensures)
+pub places_in-requires-clause-below : goal.places_in-requires-clause-below
+places_in-requires-clause-below c =
+    let p = c.args.plan.now in
+    let lists = c.lists-lists.ensures in
+    let order = c.list_order-order.result.now in
+    subst (λ n. AreBelow n order) (ap length (sym lists.lists))
+    (order_below (length p.lists) (edges_of (opened_lists p.lists)) order (plan_is_order p order lists.plan c.list_order-order.ensures).front)
 
 pub places_in-requires-clause-distinct : goal.places_in-requires-clause-distinct
 places_in-requires-clause-distinct c =
-    subst AreDistinct (sym c.as_slice-2.ensures)
-    (order_distinct (length c.args.lists.now) c.as_slice.result.now c.in_ok-order.order c.in_ok-order.ensures.front)
+    let p = c.args.plan.now in
+    let order = c.list_order-order.result.now in
+    order_distinct (length p.lists) (edges_of (opened_lists p.lists)) order (plan_is_order p order c.lists-lists.ensures.plan c.list_order-order.ensures).front
 
 pub returns-clause-ready : goal.returns-clause-ready
 returns-clause-ready c =
-    let lists = c.args.lists.now in
+    let p = c.args.plan.now in
+    let lists = c.lists-lists.ensures in
+    let order = c.list_order-order.result.now in
     let places = c.in_ok-places.places.items in
-    ready_by c.args.limit lists places c.in_ok-order.order c.as_slice.result.now c.requires.few c.requires.few_lists c.requires.built c.requires.ordered
-    (c.as_slice.ensures.value ∙ c.in_ok-edges.ensures) c.in_ok-order.ensures c.in_ok-places.ensures.len
-    (subst (λ xs. ArePlaces places xs (length lists)) c.as_slice-2.ensures c.in_ok-places.ensures.places)
+    let ready : AreReady p.limit p.lists places order =
+    ready_of p places order lists.plan c.requires c.list_order-order.ensures (c.in_ok-places.ensures.len ∙ ap length lists.lists)
+    (subst (λ n. ArePlaces places order n) (ap length lists.lists) c.in_ok-places.ensures.places) in
+    subst (λ n. AreReady n c.lists-lists.result.now places order) (sym c.limit-limit.ensures) (subst (λ ds. AreReady p.limit ds places order) (sym lists.lists) ready)

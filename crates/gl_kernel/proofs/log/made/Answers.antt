@@ -1,13 +1,13 @@
 use Rattle.std.proofs.Common.{◌∙◌, ◌<◌, ◌≤◌, ap, length, insert, remove, slice_set, List, subst, arith}
 use Rattle.std.proofs.lemmas.List.Edits.{length-insert, length-remove}
 use Rattle.std.proofs.lemmas.List.{length-set}
-use Rattle.gl_kernel.specs.declared.edit.Edit.{Edit}
-use Rattle.gl_kernel.specs.declared.edit.Edit.TheVariants.{Insert, Remove, Set}
+use Rattle.gl_kernel.specs.declared.log_step.LogStep.{LogStep}
+use Rattle.gl_kernel.specs.declared.log_step.LogStep.TheVariants.{Insert, Remove, Set}
 use Rattle.gl_kernel.specs.Edits.{IsWithin}
 use Rattle.gl_kernel.proofs.Playing.{remove-insert, insert-remove, set-back, can_go_back}
 use Rattle.gl_kernel.proofs.log.made.Goals as goal
 
-abbrev Within : {T : Type 0} → List T → Edit T → Type 0
+abbrev Within : {T : Type 0} → List T → LogStep T → Type 0
 Within xs e = IsWithin e xs
 
 pub returns-in-Insert-clause-back : goal.returns-in-Insert-clause-back

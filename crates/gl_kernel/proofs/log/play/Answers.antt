@@ -1,13 +1,13 @@
 use Rattle.std.proofs.Common.{◌≡◌, ◌∙◌, ◌∷◌, ◌++◌, ℕ, [], ◌+◌, List, length, ap, sym, subst, refl, arith}
-use Rattle.gl_kernel.specs.declared.edit.Edit.{Edit}
+use Rattle.gl_kernel.specs.declared.log_step.LogStep.{LogStep}
 use Rattle.gl_kernel.specs.Edits.{edited, played, CanPlay}
 use Rattle.gl_kernel.proofs.Playing.{played-append, fits_first, can_make_last, can_play_last, can_play_more}
 use Rattle.gl_kernel.proofs.log.play.Goals as goal
 
-abbrev Playable : {T : Type 0} → (List T → ℕ) → ℕ → List T → List (Edit T) → Type 0
+abbrev Playable : {T : Type 0} → (List T → ℕ) → ℕ → List T → List (LogStep T) → Type 0
 Playable need room xs es = CanPlay need room es xs
 
-abbrev PlayableOn : {T : Type 0} → (List T → ℕ) → ℕ → List (Edit T) → List T → Type 0
+abbrev PlayableOn : {T : Type 0} → (List T → ℕ) → ℕ → List (LogStep T) → List T → Type 0
 PlayableOn need room es xs = CanPlay need room es xs
 
 pub edits-init : goal.edits-init

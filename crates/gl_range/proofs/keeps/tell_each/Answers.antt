@@ -2,10 +2,9 @@ use Rattle.std.proofs.Common.{◌∙◌, ◌+◌, ◌-◌, ◌++◌, ◌<◌, �
 use Rattle.spec_lists.specs.Piece.{kept, normal}
 use Rattle.spec_lists.proofs.Normal.{normal_is}
 use Rattle.spec_views.specs.Chosen.{told_of_pair}
-use Rattle.gl_kernel.proofs.Spreading.{told_more}
+use Rattle.gl_kernel.proofs.Spreading.{told_more, can_tell_part}
 use Rattle.gl_kernel.proofs.Making.{append_nothing}
 use Rattle.gl_range.specs.Told.{told_alike}
-use Rattle.gl_range.proofs.Telling.{can_tell_part}
 use Rattle.gl_range.proofs.Keeping.{alike_first, alike_none}
 use Rattle.gl_range.proofs.keeps.tell_each.Goals as goal
 

@@ -1,10 +1,9 @@
 use Rattle.std.proofs.Common.{◌≡◌, ◌∙◌, ◌+◌, ◌-◌, ◌++◌, ◌≤◌, replicate, ap, sym, arith}
 use Rattle.spec_lists.specs.Piece.{kept, normal}
 use Rattle.spec_lists.proofs.Normal.{normal_is}
-use Rattle.gl_kernel.proofs.Spreading.{told_more}
+use Rattle.gl_kernel.proofs.Spreading.{told_more, can_tell_part}
 use Rattle.gl_kernel.proofs.Making.{append_nothing}
 use Rattle.gl_range.specs.Told.{shows, told_in, told_alike}
-use Rattle.gl_range.proofs.Telling.{can_tell_part}
 use Rattle.gl_range.proofs.Keeping.{stretch_told, alike_less}
 use Rattle.gl_range.proofs.keeps.tell_keeps.Goals as goal
 

@@ -8,4 +8,5 @@ use Rattle.gl_report.proofs.lists.write_lists.Given as goal
 abbrev pub invariant-loop-list : goal.invariant-loop-list
 invariant-loop-list g l =
     l.out ++ list_lines (drop l.list l.lists) (drop l.list (table_of (run l.world.plan l.world.order).state))
-    ≡ l.initial.out ++ list_lines l.lists (table_of (run l.world.plan l.world.order).state)
+    (drop l.list (run l.world.plan l.world.order).state)
+    ≡ l.initial.out ++ list_lines l.lists (table_of (run l.world.plan l.world.order).state) (run l.world.plan l.world.order).state

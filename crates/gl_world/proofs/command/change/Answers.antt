@@ -2,14 +2,20 @@ use Rattle.std.proofs.Common.{◌∙◌, ◌++◌, ◌∷◌, [], sym, subst}
 use Rattle.std.specs.Prelude.{List}
 use Rattle.gl_lines.specs.declared.reply.Reply.TheVariants.{OutOfRange, TooLong}
 use Rattle.spec_runs.proofs.Steps.{still_state}
-use Rattle.gl_graph.specs.declared.retreat.GraphUndo.{GraphUndo}
+use Rattle.spec_runs.proofs.Suiting.{suits_list}
+use Rattle.gl_graph.specs.declared.graph.GraphUndo.{GraphUndo}
 use Rattle.gl_graph.specs.Graph.{Kept, state_of}
 use Rattle.gl_graph.specs.Waves.{IsRefused}
 use Rattle.gl_graph.proofs.Going.{contents_same_state}
 use Rattle.gl_world.specs.Back.{GoesOn}
 use Rattle.gl_world.proofs.Backs.{goes_like, goes_more, goes_back}
 use Rattle.gl_world.proofs.Commands.{deltas_still, deltas_joined, are_meeting}
+use Rattle.gl_world.proofs.Suiting.{graph_suits}
 use Rattle.gl_world.proofs.command.change.Goals as goal
+
+pub wave-requires-clause-suits : goal.wave-requires-clause-suits
+wave-requires-clause-suits g c =
+    graph_suits c.args.graph.now c.args.command.now c.requires.suits c.requires.change
 
 pub returns-in_err-keep-in-Ok-clause-back : goal.returns-in_err-keep-in-Ok-clause-back
 returns-in_err-keep-in-Ok-clause-back g c =
@@ -26,7 +32,8 @@ join_all-requires-clause-meet g c =
     let old = c.args.graph.now in
     let e = c.in-Ok.ensures in
     are_meeting old.limit (state_of old) c.args.command.now c.args.deltas.now c.in-Ok.field-0.deltas
-    c.law.ensures.ordered e.moves c.requires.deltas e.told
+    c.requires.sound
+    (suits_list (state_of old) c.args.command.now c.requires.suits) e.moves c.requires.deltas e.told
 
 pub returns-in_err-join_all-in-Ok-clause-back : goal.returns-in_err-join_all-in-Ok-clause-back
 returns-in_err-join_all-in-Ok-clause-back g c =
@@ -55,7 +62,8 @@ returns-in_ok-join_all-in-Ok-clause-told g c =
     let old = c.args.graph.now in
     let e = c.in-Ok.ensures in
     deltas_joined old.limit (state_of old) c.args.command.now c.args.deltas.now c.in-Ok.field-0.deltas
-    c.join_all.new.sofar c.law.ensures.ordered e.moves e.told c.in_ok-join_all-in-Ok.ensures
+    c.join_all.new.sofar c.requires.sound
+    (suits_list (state_of old) c.args.command.now c.requires.suits) e.moves e.told c.in_ok-join_all-in-Ok.ensures
 
 pub returns-in-Err-OutOfRange-clause-back : goal.returns-in-Err-OutOfRange-clause-back
 returns-in-Err-OutOfRange-clause-back g c =

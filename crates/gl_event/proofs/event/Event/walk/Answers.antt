@@ -1,10 +1,8 @@
 use Rattle.std.proofs.Common.{◌∙◌, ap, arith}
 use Rattle.spec_lists.specs.Changes.{changes}
 use Rattle.gl_event.specs.Heard.{Heard}
-use Rattle.gl_delta.specs.Plain.{new_count}
-use Rattle.gl_event.specs.Changes.{changes_in}
-use Rattle.gl_delta.proofs.PlainLemmas.{new_count-cells}
-use Rattle.gl_event.proofs.CellLemmas.{changes_cells}
+use Rattle.gl_event.specs.Changes.{changes_in, new_count}
+use Rattle.gl_event.proofs.CellLemmas.{changes_cells, new_count-cells}
 use Rattle.gl_event.proofs.event.Event.walk.Goals as goal
 
 pub returns-clause-changes : goal.returns-clause-changes

@@ -5,7 +5,7 @@ use Rattle.gl_filter.specs.Kept.{Kept}
 use Rattle.gl_filter.proofs.Showing.{count-filter}
 use Rattle.gl_filter.proofs.filter.Filter.len.Goals as goal
 
-pub returns : goal.returns
-returns c =
+pub returns-clause-view : goal.returns-clause-view
+returns-clause-view c =
     λ xs stands. c.shown_len.ensures
     ∙ (ap (λ (k : Kept). count_shown k.shown) c.self.view_is ∙ (ap count_shown stands ∙ count-filter (accepts c.args.self.now.matcher) xs))

@@ -1,92 +1,164 @@
-use Rattle.std.proofs.Common.{◌∙◌, ◌++◌, ◌∷◌, [], ◌+◌, ◌≤◌, List, length, drop, slice_get, append_assoc, ap, sym, subst, arith}
-use Rattle.spec_lists.specs.Piece.{Piece, kept, normal}
-use Rattle.spec_lists.proofs.Normal.{normal_is}
+use Rattle.std.proofs.Common.{◌≡◌, ◌∙◌, ◌++◌, ◌+◌, ◌-◌, List, Bool, length, drop, ap, sym, refl, subst, arith}
+use Rattle.std.proofs.lemmas.List.{length-drop, take_all}
+use Rattle.spec_lists.specs.Piece.{Piece, normal}
 use Rattle.spec_lang.specs.Matcher.{accepts}
-use Rattle.spec_views.specs.Chosen.{told_of_pair}
 use Rattle.gl_kernel.specs.Fates.{edits_of}
 use Rattle.gl_kernel.specs.Plans.{CanTell}
-use Rattle.gl_kernel.proofs.Spreading.{told_more}
-use Rattle.gl_kernel.proofs.Making.{append_nothing}
+use Rattle.gl_kernel.proofs.Making.{length-made}
 use Rattle.gl_filter.specs.Kept.{Kept}
-use Rattle.gl_filter.specs.Told.{told_change, switch, switches}
-use Rattle.gl_filter.proofs.Changing.{change_split, switch_split, edits_first, drop_all, can_tell_change, question_split, mark_at, says_here}
+use Rattle.gl_filter.specs.Told.{told_change, switches, questions, AreAll, IsNext}
+use Rattle.gl_filter.proofs.Changing.{walk_told, walk_can, walk_edits, walk_asked}
+use Rattle.gl_filter.proofs.Passing.{passes_next, passes_rest}
 use Rattle.gl_filter.proofs.filter.Filter.replan.Goals as goal
 
-pub decide-is-requires : goal.decide-is-requires
-decide-is-requires g c =
+pub pass-requires-clause-can : goal.pass-requires-clause-can
+pass-requires-clause-can g c =
     let xs = g.S.Shelf.items c.args.input.now in
-    let old = accepts c.args.self.now.matcher in
-    let place = c.loop-place.place in
-    let x = c.element-v.result.now in
-    let marks = ap (λ (k : Kept). k.shown) c.self.view_is ∙ c.requires.stands in
-    let was = mark_at old xs place x c.shown-was.result c.element-v.ensures (ap (λ bs. slice_get bs place) (sym marks) ∙ c.shown-was.ensures) in
-    says_here c.args.kind c.args.self.now.matcher c.args.param.now x c.shown-was.result c.requires.says was
-
-pub tell_kept-requires : goal.tell_kept-requires
-tell_kept-requires g c =
-    let xs = g.S.Shelf.items c.args.input.now in
-    let old = accepts c.args.self.now.matcher in
-    let new = accepts c.args.param.now in
-    let place = c.loop-place.place in
-    let x = c.element-v.result.now in
-    let out = c.loop-place.plan.out.pieces in
-    let marks = ap (λ (k : Kept). k.shown) c.self.view_is ∙ c.requires.stands in
-    let was = mark_at old xs place x c.shown-was.result c.element-v.ensures (ap (λ bs. slice_get bs place) (sym marks) ∙ c.shown-was.ensures) in
-    let pair = ap (λ b. told_of_pair b (new x) kept x x []) (sym was) ∙ ap (λ b. told_of_pair c.shown-was.result b kept x x []) (sym c.decide-is.ensures.value) in
-    let whole = change_split old new xs place x out (normal (told_change old new xs)) c.element-v.ensures c.loop-place.invariant.told in
+    let old = c.args.self.now.matcher in
+    let new = c.args.param.now in
+    let bs = c.args.self.now.shown in
+    let place = c.visited.plan.place in
+    let out = c.visited.plan.out.pieces in
+    let mark = c.left_mark-mark.result in
+    let Next : List Bool → Type 0 = λ cs. IsNext mark cs place c.in-Some.place in
+    let next = subst Next (ap (λ (k : Kept). k.shown) c.self.view_is) c.in-Some.ensures.next in
+    let passed = passes_next c.args.kind old new xs bs mark c.requires.says c.requires.stands c.left_mark-mark.ensures place c.in-Some.place next in
     let Can : List Piece → Type 0 = λ qs. CanTell qs out in
-    subst Can pair (can_tell_change old new xs out (told_of_pair (old x) (new x) kept x x []) (told_change old new (drop (place + 1) xs)) c.requires.few whole)
+    subst Can passed.told (walk_can (accepts old) (accepts new) xs place (c.in-Some.place - place) out c.requires.few c.visited.invariant.told)
 
-pub returns-in_err-tell_kept-clause-counted : goal.returns-in_err-tell_kept-clause-counted
-returns-in_err-tell_kept-clause-counted g c =
-    let place = c.loop-place.place in
-    let mark = ap (λ (k : Kept). slice_get k.shown place) (sym c.self.view_is) ∙ c.shown-was.ensures in
-    omega (arith, c.loop-place.invariant.counted, c.decide-is.ensures.counted, question_split c.args.kind c.args.self.now.shown place c.shown-was.result mark)
-
-pub returns-in_err-note-clause-counted : goal.returns-in_err-note-clause-counted
-returns-in_err-note-clause-counted g c =
-    let place = c.loop-place.place in
-    let mark = ap (λ (k : Kept). slice_get k.shown place) (sym c.self.view_is) ∙ c.shown-was.ensures in
-    omega (arith, c.loop-place.invariant.counted, c.decide-is.ensures.counted, question_split c.args.kind c.args.self.now.shown place c.shown-was.result mark)
-
-pub loop-place-preserved : goal.loop-place-preserved
-loop-place-preserved g c =
+pub visit-requires-clause-can : goal.visit-requires-clause-can
+visit-requires-clause-can g c =
     let xs = g.S.Shelf.items c.args.input.now in
-    let old = accepts c.args.self.now.matcher in
-    let new = accepts c.args.param.now in
-    let place = c.loop-place.place in
-    let x = c.element-v.result.now in
-    let out = c.loop-place.plan.out.pieces in
-    let more = c.tell_kept.new.out.pieces in
-    let log = c.loop-place.plan.log.items in
-    let was_shown = c.shown-was.result in
-    let is_shown = c.decide-is.result in
-    let rest = switches old new (drop (place + 1) xs) in
-    let marks = ap (λ (k : Kept). k.shown) c.self.view_is ∙ c.requires.stands in
-    let was = mark_at old xs place x was_shown c.element-v.ensures (ap (λ bs. slice_get bs place) (sym marks) ∙ c.shown-was.ensures) in
-    let pair = ap (λ b. told_of_pair b (new x) kept x x []) (sym was) ∙ ap (λ b. told_of_pair was_shown b kept x x []) (sym c.decide-is.ensures.value) in
-    let all = normal (told_change old new xs) in
-    let whole = change_split old new xs place x out all c.element-v.ensures c.loop-place.invariant.told in
-    let mark = ap (λ (k : Kept). slice_get k.shown place) (sym c.self.view_is) ∙ c.shown-was.ensures in
-    let edits = switch_split old new xs place x log (edits_of 0 (switches old new xs)) c.element-v.ensures c.loop-place.invariant.edits in
-    let noted = c.in_ok-note.ensures ∙ (ap (λ b. log ++ edits_of place (switch b is_shown ∷ [])) was ∙ ap (λ b. log ++ edits_of place (switch (old x) b ∷ [])) c.decide-is.ensures.value) in
+    let old = c.args.self.now.matcher in
+    let new = c.args.param.now in
+    let bs = c.args.self.now.shown in
+    let place = c.visited.plan.place in
+    let out = c.visited.plan.out.pieces in
+    let mark = c.left_mark-mark.result in
+    let n = c.in-Some.place - place in
+    let at = c.pass.new.plan.place in
+    let more = c.pass.new.plan.out.pieces in
+    let whole = normal (told_change (accepts old) (accepts new) xs) in
+    let Next : List Bool → Type 0 = λ cs. IsNext mark cs place c.in-Some.place in
+    let next = subst Next (ap (λ (k : Kept). k.shown) c.self.view_is) c.in-Some.ensures.next in
+    let passed = passes_next c.args.kind old new xs bs mark c.requires.says c.requires.stands c.left_mark-mark.ensures place c.in-Some.place next in
+    let told = walk_told (accepts old) (accepts new) xs place n out more whole at c.visited.invariant.told
+    (c.in_ok-pass.ensures.told_is ∙ ap (λ qs. normal (out ++ qs)) (sym passed.told)) c.in_ok-pass.ensures.place_is in
+    walk_can (accepts old) (accepts new) xs at 1 more c.requires.few told
+
+pub visited-preserved : goal.visited-preserved
+visited-preserved g c =
+    let xs = g.S.Shelf.items c.args.input.now in
+    let old = c.args.self.now.matcher in
+    let new = c.args.param.now in
+    let kind = c.args.kind in
+    let bs = c.args.self.now.shown in
+    let place = c.visited.plan.place in
+    let mark = c.left_mark-mark.result in
+    let n = c.in-Some.place - place in
+    let before = c.visited.plan in
+    let passed_plan = c.pass.new.plan in
+    let at = c.pass.new.plan.place in
+    let after = c.visit.new.plan in
+    let Next : List Bool → Type 0 = λ cs. IsNext mark cs place c.in-Some.place in
+    let next = subst Next (ap (λ (k : Kept). k.shown) c.self.view_is) c.in-Some.ensures.next in
+    let passed = passes_next kind old new xs bs mark c.requires.says c.requires.stands c.left_mark-mark.ensures place c.in-Some.place next in
+    let goes = c.in_ok-pass.ensures in
+    let visits = c.in_ok-visit.ensures.ok in
+    let len : length bs ≡ length xs = ap length c.requires.stands ∙ length-made (accepts old) xs in
+    let there : at ≡ c.in-Some.place = omega (arith, goes.place_is, next.from) in
+    let told = walk_told (accepts old) (accepts new) xs place n before.out.pieces passed_plan.out.pieces (normal (told_change (accepts old) (accepts new) xs)) at c.visited.invariant.told
+    (goes.told_is ∙ ap (λ qs. normal (before.out.pieces ++ qs)) (sym passed.told)) goes.place_is in
+    let edits = walk_edits (accepts old) (accepts new) xs place n before.log.items passed_plan.log.items (edits_of 0 (switches (accepts old) (accepts new) xs)) at passed.inside c.visited.invariant.edits
+    (goes.edits_are ∙ ap (λ es. before.log.items ++ es) (sym passed.edits)) goes.place_is in
     record {
-      told = told_more all out more (told_of_pair (old x) (new x) kept x x []) (told_change old new (drop (place + 1) xs)) whole
-          (c.in_ok-tell_kept.ensures ∙ ap (λ qs. normal (out ++ qs)) (sym pair));
-      edits = ap (λ es. es ++ edits_of (place + 1) rest) noted
-          ∙ (append_assoc log (edits_of place (switch (old x) (new x) ∷ [])) (edits_of (place + 1) rest)
-          ∙ (ap (λ es. log ++ es) (sym (edits_first (old x) (new x) place rest)) ∙ edits));
-      counted = omega (arith, c.loop-place.invariant.counted, c.decide-is.ensures.counted, question_split c.args.kind c.args.self.now.shown place was_shown mark);
+      told = walk_told (accepts old) (accepts new) xs at 1 passed_plan.out.pieces after.out.pieces (normal (told_change (accepts old) (accepts new) xs)) after.place told visits.told_is visits.place_is;
+      edits = walk_edits (accepts old) (accepts new) xs at 1 passed_plan.log.items after.log.items (edits_of 0 (switches (accepts old) (accepts new) xs)) after.place
+          (omega (arith, there, next.within, len)) edits visits.edits_are visits.place_is;
+      counted = omega (
+        arith,
+        c.visited.invariant.counted,
+        c.in_ok-visit.ensures.counted,
+        passed.asked,
+        walk_asked kind bs place n,
+        walk_asked kind bs at 1,
+        ap (λ k. questions kind (drop k bs)) goes.place_is,
+        ap (λ k. questions kind (drop k bs)) visits.place_is,
+      );
+      place = omega (arith, there, next.within, visits.place_is);
     }
+
+pub returns-in_err-visit-clause-counted : goal.returns-in_err-visit-clause-counted
+returns-in_err-visit-clause-counted g c =
+    let xs = g.S.Shelf.items c.args.input.now in
+    let kind = c.args.kind in
+    let bs = c.args.self.now.shown in
+    let place = c.visited.plan.place in
+    let mark = c.left_mark-mark.result in
+    let at = c.pass.new.plan.place in
+    let Next : List Bool → Type 0 = λ cs. IsNext mark cs place c.in-Some.place in
+    let next = subst Next (ap (λ (k : Kept). k.shown) c.self.view_is) c.in-Some.ensures.next in
+    let passed = passes_next kind c.args.self.now.matcher c.args.param.now xs bs mark c.requires.says c.requires.stands c.left_mark-mark.ensures place c.in-Some.place next in
+    omega (
+      arith,
+      c.visited.invariant.counted,
+      c.in_err-visit.ensures.counted,
+      passed.asked,
+      walk_asked kind bs place (c.in-Some.place - place),
+      walk_asked kind bs at 1,
+      ap (λ k. questions kind (drop k bs)) c.in_ok-pass.ensures.place_is,
+    )
+
+pub pass-requires-2-clause-can : goal.pass-requires-2-clause-can
+pass-requires-2-clause-can g c =
+    let xs = g.S.Shelf.items c.args.input.now in
+    let old = c.args.self.now.matcher in
+    let new = c.args.param.now in
+    let bs = c.args.self.now.shown in
+    let place = c.visited.plan.place in
+    let out = c.visited.plan.out.pieces in
+    let mark = c.left_mark-mark.result in
+    let marks = ap (λ (k : Kept). k.shown) c.self.view_is in
+    let All : List Bool → Type 0 = λ cs. AreAll mark (drop place cs) in
+    let passed = passes_rest c.args.kind old new xs bs mark c.requires.says c.requires.stands c.left_mark-mark.ensures place c.len.result (c.len.ensures ∙ ap length marks) c.visited.invariant.place
+    (subst All marks (c.in_default.ensures.none refl)) in
+    let Can : List Piece → Type 0 = λ qs. CanTell qs out in
+    subst Can passed.told (walk_can (accepts old) (accepts new) xs place (c.len.result - place) out c.requires.few c.visited.invariant.told)
 
 pub returns-clause-told : goal.returns-clause-told
 returns-clause-told g c =
     let xs = g.S.Shelf.items c.args.input.now in
-    let old = accepts c.args.self.now.matcher in
-    let new = accepts c.args.param.now in
-    let place = c.loop-place.place in
-    let out = c.loop-place.plan.out.pieces in
-    let behind : length xs ≤ place = grind (arith, c.loop-place-test.false, c.len-place-end.ensures) in
-    sym (normal_is out c.old_len-normal.ensures.normal)
-    ∙ (ap normal (sym (append_nothing out))
-    ∙ (ap (λ ys. normal (out ++ told_change old new ys)) (sym (drop_all xs place behind)) ∙ c.loop-place.invariant.told))
+    let old = c.args.self.now.matcher in
+    let new = c.args.param.now in
+    let bs = c.args.self.now.shown in
+    let place = c.visited.plan.place in
+    let out = c.visited.plan.out.pieces in
+    let mark = c.left_mark-mark.result in
+    let marks = ap (λ (k : Kept). k.shown) c.self.view_is in
+    let len : c.len.result ≡ length xs = c.len.ensures ∙ (ap length marks ∙ (ap length c.requires.stands ∙ length-made (accepts old) xs)) in
+    let All : List Bool → Type 0 = λ cs. AreAll mark (drop place cs) in
+    let passed = passes_rest c.args.kind old new xs bs mark c.requires.says c.requires.stands c.left_mark-mark.ensures place c.len.result (c.len.ensures ∙ ap length marks) c.visited.invariant.place
+    (subst All marks (c.in_default.ensures.none refl)) in
+    let all = take_all (c.len.result - place) (drop place xs) (omega (arith, len, length-drop place xs)) in
+    c.in_ok-pass-2.ensures.told_is
+    ∙ (ap (λ qs. normal (out ++ qs)) (sym passed.told)
+    ∙ (ap (λ ys. normal (out ++ told_change (accepts old) (accepts new) ys)) all ∙ c.visited.invariant.told))
+
+pub returns-clause-edits : goal.returns-clause-edits
+returns-clause-edits g c =
+    let xs = g.S.Shelf.items c.args.input.now in
+    let old = c.args.self.now.matcher in
+    let new = c.args.param.now in
+    let bs = c.args.self.now.shown in
+    let place = c.visited.plan.place in
+    let log = c.visited.plan.log.items in
+    let mark = c.left_mark-mark.result in
+    let marks = ap (λ (k : Kept). k.shown) c.self.view_is in
+    let len : c.len.result ≡ length xs = c.len.ensures ∙ (ap length marks ∙ (ap length c.requires.stands ∙ length-made (accepts old) xs)) in
+    let All : List Bool → Type 0 = λ cs. AreAll mark (drop place cs) in
+    let passed = passes_rest c.args.kind old new xs bs mark c.requires.says c.requires.stands c.left_mark-mark.ensures place c.len.result (c.len.ensures ∙ ap length marks) c.visited.invariant.place
+    (subst All marks (c.in_default.ensures.none refl)) in
+    let all = take_all (c.len.result - place) (drop place xs) (omega (arith, len, length-drop place xs)) in
+    c.in_ok-pass-2.ensures.edits_are
+    ∙ (ap (λ es. log ++ es) (sym passed.edits)
+    ∙ (ap (λ ys. log ++ edits_of place (switches (accepts old) (accepts new) ys)) all ∙ c.visited.invariant.edits))

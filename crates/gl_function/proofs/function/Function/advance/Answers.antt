@@ -1,13 +1,9 @@
-use Rattle.std.proofs.Common.{◌∙◌, List, length, map, ap, sym, subst, arith}
-use Rattle.spec_value.specs.Tree.{Tree}
+use Rattle.std.proofs.Common.{◌∙◌, length, map, ap, sym, arith}
 use Rattle.spec_lists.specs.Piece.{turned, normal}
 use Rattle.spec_lists.specs.Leads.{applied}
 use Rattle.spec_lists.proofs.Leading.{length_from}
 use Rattle.spec_lang.specs.Func.{eval}
-use Rattle.gl_kernel.specs.declared.edit.Edit.{Edit}
-use Rattle.gl_kernel.specs.Edits.{AreWithin, played, insertions}
-use Rattle.gl_kernel.specs.Fates.{fate, edits_of}
-use Rattle.gl_kernel.proofs.Fating.{delta_played, delta_within, delta_insertions}
+use Rattle.gl_kernel.proofs.Fating.{delta_makes}
 use Rattle.gl_kernel.proofs.Leading.{from_new}
 use Rattle.gl_kernel.proofs.Making.{length-made}
 use Rattle.gl_function.specs.Kept.{Kept}
@@ -30,11 +26,9 @@ apply-requires-clause-within g c =
     let ys = g.S.Shelf.items c.args.input.now in
     let xs = applied (map turned ps) ys in
     let leads = from_new ps ys c.old_len-olds.ensures.normal c.requires.leads in
-    let f = eval c.self.inside.func in
     let values = ap (λ (k : Kept). k.values) c.self.view_is ∙ (c.requires.stands ∙ ap (λ (k : Kept). map (eval k.func) xs) (sym c.self.view_is)) in
-    let ByLog : List (Edit Tree) → Type 0 = λ es. AreWithin es c.self.inside.results.values in
-    let ByValues : List Tree → Type 0 = λ vs. AreWithin (edits_of 0 (map (fate f) ps)) vs in
-    subst ByLog (sym c.in_ok-plan.ensures.edits) (subst ByValues (sym values) (delta_within f ps xs leads.starts))
+    (delta_makes (eval c.self.inside.func) ps xs ys c.in_ok-plan.plan.log.items c.self.inside.results.values leads
+    (omega (arith, c.old_len-olds.ensures.value, c.old_len-olds.ensures.few)) (omega (arith, c.new_len-news.ensures.value, c.new_len-news.ensures.few)) values c.in_ok-plan.ensures.edits).within
 
 pub apply-requires-clause-few : goal.apply-requires-clause-few
 apply-requires-clause-few g c =
@@ -42,20 +36,9 @@ apply-requires-clause-few g c =
     let ys = g.S.Shelf.items c.args.input.now in
     let xs = applied (map turned ps) ys in
     let leads = from_new ps ys c.old_len-olds.ensures.normal c.requires.leads in
-    let f = eval c.self.inside.func in
-    let values = ap (λ (k : Kept). k.values) c.self.view_is ∙ c.requires.stands in
-    omega (
-      arith,
-      length_from ps xs leads.starts,
-      ap length values,
-      length-made (eval c.args.self.now.func) xs,
-      ap insertions c.in_ok-plan.ensures.edits,
-      delta_insertions f ps 0,
-      c.old_len-olds.ensures.value,
-      c.old_len-olds.ensures.few,
-      c.new_len-news.ensures.value,
-      c.new_len-news.ensures.few,
-    )
+    let values = ap (λ (k : Kept). k.values) c.self.view_is ∙ (c.requires.stands ∙ ap (λ (k : Kept). map (eval k.func) xs) (sym c.self.view_is)) in
+    (delta_makes (eval c.self.inside.func) ps xs ys c.in_ok-plan.plan.log.items c.self.inside.results.values leads
+    (omega (arith, c.old_len-olds.ensures.value, c.old_len-olds.ensures.few)) (omega (arith, c.new_len-news.ensures.value, c.new_len-news.ensures.few)) values c.in_ok-plan.ensures.edits).few
 
 pub returns-clause-pieces : goal.returns-clause-pieces
 returns-clause-pieces g c =
@@ -73,8 +56,7 @@ returns-clause-stands g c =
     let ys = g.S.Shelf.items c.args.input.now in
     let xs = applied (map turned ps) ys in
     let leads = from_new ps ys c.old_len-olds.ensures.normal c.requires.leads in
-    let f = eval c.self.inside.func in
     let values = ap (λ (k : Kept). k.values) c.self.view_is ∙ (c.requires.stands ∙ ap (λ (k : Kept). map (eval k.func) xs) (sym c.self.view_is)) in
     c.in_ok-log.ensures.ok
-    ∙ (ap (λ es. played es c.self.inside.results.values) c.in_ok-plan.ensures.edits
-    ∙ (ap (λ vs. played (edits_of 0 (map (fate f) ps)) vs) values ∙ (delta_played f ps xs leads.starts ∙ ap (map f) (sym leads.ends))))
+    ∙ (delta_makes (eval c.self.inside.func) ps xs ys c.in_ok-plan.plan.log.items c.self.inside.results.values leads
+    (omega (arith, c.old_len-olds.ensures.value, c.old_len-olds.ensures.few)) (omega (arith, c.new_len-news.ensures.value, c.new_len-news.ensures.few)) values c.in_ok-plan.ensures.edits).made

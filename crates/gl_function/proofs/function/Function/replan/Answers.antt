@@ -1,18 +1,20 @@
 use Rattle.std.proofs.Common.{◌∙◌, ◌+◌, ◌≤◌, ◌++◌, ◌∷◌, [], length, drop, ap, sym, subst, arith}
+use Rattle.std.proofs.lemmas.List.{drop_all}
 use Rattle.spec_value.specs.Tree.{Tree}
 use Rattle.spec_lists.specs.Piece.{updated, normal}
 use Rattle.spec_lists.proofs.Normal.{normal_is}
 use Rattle.spec_lang.specs.Func.{eval}
 use Rattle.spec_views.specs.Function.{function_change}
 use Rattle.spec_views.proofs.Following.{function_change_normal}
-use Rattle.gl_kernel.specs.declared.edit.Edit.TheVariants.{Set}
+use Rattle.gl_kernel.specs.declared.log_step.LogStep.TheVariants.{Set}
 use Rattle.gl_kernel.specs.Fates.{edits_of}
 use Rattle.gl_kernel.specs.Plans.{CanTell}
 use Rattle.gl_kernel.proofs.Spreading.{told_more, logged_more}
 use Rattle.gl_kernel.proofs.Making.{append_nothing}
 use Rattle.gl_function.specs.Kept.{Kept}
 use Rattle.gl_function.specs.Told.{renewed}
-use Rattle.gl_function.proofs.Changing.{change_split, edits_split, result_is, drop_all, can_tell_change}
+use Rattle.gl_kernel.proofs.Reading.{result_is}
+use Rattle.gl_function.proofs.Changing.{change_split, edits_split, can_tell_change}
 use Rattle.gl_function.proofs.function.Function.replan.Goals as goal
 
 pub tell_updated-requires-clause-can : goal.tell_updated-requires-clause-can
@@ -61,5 +63,5 @@ returns-clause-told g c =
     let behind : length xs ≤ place = grind (arith, c.loop-place-test.false, c.len-place-end.ensures) in
     sym (normal_is out c.old_len-normal.ensures.normal)
     ∙ (ap normal (sym (append_nothing out))
-    ∙ (ap (λ ys. normal (out ++ function_change old new ys)) (sym (drop_all xs place behind))
+    ∙ (ap (λ ys. normal (out ++ function_change old new ys)) (sym (drop_all place xs behind))
     ∙ (c.loop-place.invariant.told ∙ normal_is (function_change old new xs) (function_change_normal old new xs))))

@@ -1,7 +1,6 @@
 use Rattle.std.proofs.Common.{◌≤◌, ◌∙◌, length, ap, sym, subst, arith}
 use Rattle.spec_states.specs.Shown.{shown}
 use Rattle.gl_graph.specs.Nodes.{AreSettled}
-use Rattle.gl_graph.specs.Nodes as made
 use Rattle.gl_graph.specs.Graph.{Kept, state_of}
 use Rattle.gl_graph.proofs.Fronts.{past_shows}
 use Rattle.gl_graph.proofs.graph.Graph.len.Goals as goal

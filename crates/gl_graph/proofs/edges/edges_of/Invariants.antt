@@ -1,7 +1,0 @@
-use Rattle.std.proofs.Common.{◌≡◌, ◌++◌, map, drop}
-use Rattle.spec_plans.specs.Plan.{inputs_of, edges_from}
-use Rattle.gl_graph.proofs.edges.edges_of.Given as goal
-
--- what is left, behind what there is, is the whole
-abbrev pub invariant-loop-i : goal.invariant-loop-i
-invariant-loop-i l = l.edges.items ++ edges_from l.i (map (λ d. inputs_of d.kind) (drop l.i l.lists)) ≡ edges_from 0 (map (λ d. inputs_of d.kind) l.lists)

@@ -1,0 +1,185 @@
+//! A list over one input: all that goes by its kind.
+
+ghost use Rattle.std.specs.Prelude.{◌≡◌, ◌≤◌, ◌+◌, ℕ, List, Some, length, slice_get, IfOk, OnOk, OnErr};
+ghost use Rattle.spec_value.specs.Tree.{Tree};
+ghost use Rattle.spec_lists.specs.Leads.{LeadsTo, undone};
+ghost use Rattle.spec_lang.specs.Kind.{kind as kind_of};
+ghost use Rattle.spec_lang.specs.Matcher.{accepts};
+ghost use Rattle.spec_views.specs.Filter.{filter_change};
+ghost use Rattle.spec_views.specs.View.{view_of, follow_of, Parameter};
+ghost use Rattle.spec_states.specs.Wave.{parameter_of, parameter_change, view_after};
+ghost use Rattle.gl_filter.specs.Stands as filter_stands;
+ghost use Rattle.gl_filter.specs.Told.{change_cost};
+ghost use Rattle.gl_kernel.specs.Found.{found};
+ghost use Rattle.gl_graph.specs.Commands.{Gives};
+ghost use Rattle.gl_graph.specs.Derived.{view_of_derived, StandsFor, contents, room_of, before, CanRetreat, IsUndo, AsksOf, AsksFor};
+
+use crate::command::{bounds_of, func_of, matcher_of};
+use gl_delta::{Delta, Find};
+use gl_editor::kind;
+use gl_filter::{Filter, FilterUndo};
+use gl_function::{Function, FunctionUndo};
+use gl_lang::Matcher;
+use gl_lines::Command;
+use gl_range::{RangeKernel, RangeUndo};
+use gl_value::{Shelf, Steps};
+use std::alloc::{AllocError, Global};
+use std::sync::ledger::Ledger;
+
+/// A list over one input, by its kind.
+#[derive(Drop)]
+pub enum Derived {
+    Filter(Filter),
+    Range(RangeKernel),
+    Function(Function),
+}
+
+/// What takes such a list back to where it stood before a change.
+#[derive(Drop)]
+pub enum DerivedUndo {
+    Filter(FilterUndo),
+    Range(RangeUndo),
+    Function(FunctionUndo),
+}
+
+impl Derived {
+    /// How many elements the list shows.
+    pub fn len(&self) -> usize
+        ensures { (xs : List Tree) → StandsFor self.now xs → result ≡ length (view_of (view_of_derived self.now) xs) }
+    {
+        match self {
+            Derived::Filter(filter) => filter.len(),
+            Derived::Range(range) => range.len(),
+            Derived::Function(function) => function.len(),
+        }
+    }
+
+    /// Where the element that is shown at a place stands, or `None` exactly where the place isn't below the length.
+    pub fn find(&self, place: usize) -> Option<Find<'_>>
+        ensures { (xs : List Tree) → StandsFor self.now xs
+            → found result xs ≡ slice_get (view_of (view_of_derived self.now) xs) place }
+    {
+        match self {
+            Derived::Filter(filter) => filter.find(place),
+            Derived::Range(range) => range.find(place),
+            Derived::Function(function) => function.find(place),
+        }
+    }
+
+    /// Follows a change of its input, which then shows `input`. It takes memory for what it tells.
+    pub fn advance<S: Shelf, L: Ledger>(
+        &mut self,
+        input: &S,
+        d: &Delta,
+        steps: &mut Steps<L>,
+    ) -> Result<(Delta, DerivedUndo), AllocError>
+        requires leads { LeadsTo d.now.pieces (S.items input.now) }
+        requires stands { StandsFor self.old (undone d.now.pieces (S.items input.now)) }
+        ensures delta { IfOk result (λ told. told.0.pieces
+            ≡ follow_of (view_of_derived self.old) (undone d.now.pieces (S.items input.now)) d.now.pieces) }
+        ensures stands { OnOk result (StandsFor self.new (S.items input.now)) }
+        ensures view { OnOk result (view_of_derived self.new ≡ view_of_derived self.old) }
+        ensures undo { IfOk result (λ told. IsUndo told.1 self.old self.new) }
+        ensures err { OnErr result (contents self.new ≡ contents self.old) }
+        ensures room { room_of self.old ≤ room_of self.new }
+        ensures counted { AsksOf self.old d.now.pieces steps.old steps.new }
+    {
+        match self {
+            Derived::Filter(filter) => {
+                let (out, undo) = filter.advance(input, d, steps)?;
+                Ok((out, DerivedUndo::Filter(undo)))
+            }
+            Derived::Range(range) => {
+                let (out, undo) = range.advance(input, d, steps)?;
+                Ok((out, DerivedUndo::Range(undo)))
+            }
+            Derived::Function(function) => {
+                let (out, undo) = function.advance(input, d, steps)?;
+                Ok((out, DerivedUndo::Function(undo)))
+            }
+        }
+    }
+
+    /// Takes the parameter that a command gives in place of its own. It takes memory for what it tells.
+    pub fn change<S: Shelf, L: Ledger>(
+        &mut self,
+        alloc: Global,
+        command: &Command,
+        input: &S,
+        steps: &mut Steps<L>,
+    ) -> Result<(Delta, DerivedUndo), AllocError>
+        requires gives { Gives (view_of_derived self.old) (parameter_of command.now) }
+        requires stands { StandsFor self.old (S.items input.now) }
+        requires few { length (S.items input.now) ≤ 2147483647 }
+        ensures delta { IfOk result (λ told. told.0.pieces
+            ≡ parameter_change (parameter_of command.now) (view_of_derived self.old) (S.items input.now)) }
+        ensures stands { OnOk result (StandsFor self.new (S.items input.now)) }
+        ensures view { OnOk result
+            (view_of_derived self.new ≡ view_after (parameter_of command.now) (view_of_derived self.old)) }
+        ensures undo { IfOk result (λ told. IsUndo told.1 self.old self.new) }
+        ensures err { OnErr result (contents self.new ≡ contents self.old) }
+        ensures room { room_of self.old ≤ room_of self.new }
+        ensures counted { (given : Parameter) → parameter_of command.now ≡ Some given
+            → AsksFor self.old given steps.old steps.new }
+    {
+        match self {
+            Derived::Filter(filter) => {
+                let (out, undo) = change_filter(filter, alloc, matcher_of(command), input, steps)?;
+                Ok((out, DerivedUndo::Filter(undo)))
+            }
+            Derived::Range(range) => {
+                let (out, undo) = range.change(bounds_of(command), input)?;
+                Ok((out, DerivedUndo::Range(undo)))
+            }
+            Derived::Function(function) => {
+                let (out, undo) = function.change(func_of(command).copy(alloc)?, input)?;
+                Ok((out, DerivedUndo::Function(undo)))
+            }
+        }
+    }
+
+    /// Goes back to where the list stood before its last change, whose undo this is. It takes no memory.
+    pub fn retreat(&mut self, undo: DerivedUndo)
+        requires { CanRetreat undo self.old }
+        ensures back { contents self.new ≡ before undo self.old }
+        ensures room { room_of self.old ≤ room_of self.new }
+    {
+        match undo {
+            DerivedUndo::Filter(undo) => match self {
+                Derived::Filter(filter) => filter.retreat(undo),
+                _ => unreachable!(),
+            },
+            DerivedUndo::Range(undo) => match self {
+                Derived::Range(range) => range.retreat(undo),
+                _ => unreachable!(),
+            },
+            DerivedUndo::Function(undo) => match self {
+                Derived::Function(function) => function.retreat(undo),
+                _ => unreachable!(),
+            },
+        }
+    }
+}
+
+// A filter takes another matcher.
+fn change_filter<S: Shelf, L: Ledger>(
+    filter: &mut Filter,
+    alloc: Global,
+    matcher: &Matcher,
+    input: &S,
+    steps: &mut Steps<L>,
+) -> Result<(Delta, FilterUndo), AllocError>
+    requires stands { filter_stands.StandsFor filter.old (S.items input.now) }
+    requires few { length (S.items input.now) ≤ 2147483647 }
+    ensures delta { IfOk result (λ told. told.0.pieces
+        ≡ filter_change (accepts filter.old.matcher) (accepts matcher.now) (S.items input.now)) }
+    ensures stands { OnOk result (filter_stands.StandsFor filter.new (S.items input.now)) }
+    ensures matcher { OnOk result (filter.new.matcher ≡ matcher.now) }
+    ensures undo { IfOk result (λ told. filter_stands.IsUndo told.1 filter.old filter.new) }
+    ensures err { OnErr result (filter_stands.contents filter.new ≡ filter_stands.contents filter.old) }
+    ensures room { filter.old.room ≤ filter.new.room }
+    ensures counted { steps.new ≤ steps.old + change_cost (kind_of filter.old.matcher matcher.now) filter.old.shown }
+{
+    let kind = kind(filter.matcher(), matcher);
+    filter.change(matcher.copy(alloc)?, kind, input, steps)
+}

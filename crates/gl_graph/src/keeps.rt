@@ -1,0 +1,233 @@
+//! What a list keeps.
+
+ghost use Rattle.std.specs.Prelude.{◌≡◌, ◌≤◌, ℕ, List, Some, None, length, slice_get, IfOk, IfErr, OnOk, OnErr};
+ghost use Rattle.spec_value.specs.Tree.{Tree};
+ghost use Rattle.spec_lists.specs.Leads.{LeadsTo, undone};
+ghost use Rattle.spec_views.specs.View.{follow_of};
+ghost use Rattle.spec_states.specs.Shown.{shown_of};
+ghost use Rattle.spec_states.specs.Wave.{parameter_of, parameter_change, view_after};
+ghost use Rattle.gl_kernel.specs.Found.{found};
+ghost use Rattle.gl_graph.specs.Derived.{view_of_derived};
+ghost use Rattle.gl_graph.specs.Derived as derived_keeps;
+ghost use Rattle.gl_graph.specs.Nodes.{own_of, StandsFor, OnInput, IsPlaced, AreSettled, input_of, input_shown, shown_by};
+ghost use Rattle.gl_graph.specs.Commands.{Gives, Suits};
+ghost use Rattle.gl_graph.specs.Graph.{IsLimited};
+ghost use Rattle.gl_graph.specs.Undos.{contents, before, room_of, CanRetreat};
+ghost use Rattle.gl_graph.specs.Spread.{CanTurn, IsChanged, IsStep, IsStopped, IsRefusalOf};
+
+use crate::derived::{Derived, DerivedUndo};
+use crate::graph::Refused;
+use crate::node::Node;
+use crate::seen::see;
+use crate::source::edit_source;
+use gl_delta::{Delta, Deltas, Find};
+use gl_lines::Command;
+use gl_source::{EditFault, SourceList, SourceUndo};
+use gl_value::{Shelf, Steps};
+use std::alloc::{AllocError, Global};
+use std::sync::ledger::Ledger;
+
+/// What a list keeps: a source its elements, a list over one input the number of that and what its kind keeps of it.
+#[derive(Drop)]
+pub enum Keeps {
+    Source(SourceList),
+    Over { input: u32, derived: Derived },
+}
+
+/// What takes a list back to where it stood before a change.
+#[derive(Drop)]
+pub enum KeepsUndo {
+    Source(SourceUndo),
+    Over(DerivedUndo),
+}
+
+impl Keeps {
+    /// The number of the list that it is over; a source is over none.
+    pub fn input(&self) -> Option<u32>
+        ensures { result ≡ input_of self.now }
+    {
+        match self {
+            Keeps::Source(_) => None,
+            Keeps::Over { input, derived: _ } => Some(*input),
+        }
+    }
+
+    /// How many elements the list shows.
+    pub fn len(&self) -> usize
+        ensures { (shows : ℕ → List Tree) → StandsFor self.now shows → result ≡ length (shown_of (own_of self.now) shows) }
+    {
+        match self {
+            Keeps::Source(source) => source.len(),
+            Keeps::Over { input: _, derived } => derived.len(),
+        }
+    }
+
+    /// Where the element that is shown at a place stands: in the list itself, or at a place of what its input shows.
+    pub fn find(&self, place: usize) -> Option<Find<'_>>
+        ensures { (shows : ℕ → List Tree) → StandsFor self.now shows
+            → found result (input_shown self.now shows) ≡ slice_get (shown_of (own_of self.now) shows) place }
+    {
+        match self {
+            Keeps::Source(source) => match source.get(place) {
+                Some(value) => Some(Find::Own(value)),
+                None => None,
+            },
+            Keeps::Over { input: _, derived } => derived.find(place),
+        }
+    }
+
+    /// Turns the list of this number in the wave of a command that begins at `start`, where the lists before it were
+    /// turned and this is told of them: what is told of it and the way back, or nothing where it stays.
+    pub(crate) fn turn<L: Ledger>(
+        &mut self,
+        alloc: Global,
+        list: u32,
+        start: u32,
+        front: &[Node],
+        places: &[u32],
+        command: &Command,
+        deltas: &Deltas,
+        steps: &mut Steps<L>,
+    ) -> Result<Option<(Delta, KeepsUndo)>, Refused>
+        requires settled { AreSettled front.now places.now }
+        requires behind { OnInput (IsPlaced front.now places.now) self.old }
+        requires can { CanTurn (Some start) (shown_by front.now places.now) command.now deltas.now list self.old }
+        ensures ok { IfOk result
+            (IsStep (Some start) (shown_by front.now places.now) command.now deltas.now list self.old self.new) }
+        ensures err { OnErr result (contents self.new ≡ contents self.old) }
+        ensures stopped { (limit : ℕ) → IsLimited limit self.old → IfErr result
+            (IsStopped limit (Some start) (shown_by front.now places.now) command.now deltas.now list (own_of self.old)) }
+        ensures room { room_of self.old ≤ room_of self.new }
+    {
+        if list == start {
+            return match self.begin(alloc, list, front, places, command, deltas, steps) {
+                Ok(done) => Ok(Some(done)),
+                Err(why) => Err(why),
+            };
+        }
+        match self {
+            Keeps::Source(_) => Ok(None),
+            Keeps::Over { input, derived } => match deltas.get(*input) {
+                None => Ok(None),
+                Some(d) => {
+                    let (out, undo) = follow(derived, front, places, *input, d, steps)?;
+                    Ok(Some((out, KeepsUndo::Over(undo))))
+                }
+            },
+        }
+    }
+
+    // The list where the wave begins.
+    fn begin<L: Ledger>(
+        &mut self,
+        alloc: Global,
+        list: u32,
+        front: &[Node],
+        places: &[u32],
+        command: &Command,
+        deltas: &Deltas,
+        steps: &mut Steps<L>,
+    ) -> Result<(Delta, KeepsUndo), Refused>
+        requires settled { AreSettled front.now places.now }
+        requires behind { OnInput (IsPlaced front.now places.now) self.old }
+        requires suits { Suits command.now (own_of self.old) }
+        requires stands { StandsFor self.old (shown_by front.now places.now) }
+        ensures ok { IfOk result (IsChanged (shown_by front.now places.now) command.now self.old self.new) }
+        ensures err { OnErr result (contents self.new ≡ contents self.old) }
+        ensures stopped { (limit : ℕ) → IsLimited limit self.old → IfErr result
+            (IsStopped limit (Some list) (shown_by front.now places.now) command.now deltas.now list (own_of self.old)) }
+        ensures room { room_of self.old ≤ room_of self.new }
+    {
+        match self {
+            Keeps::Source(source) => match edit_source(source, alloc, command) {
+                Ok((out, undo)) => Ok((out, KeepsUndo::Source(undo))),
+                Err(fault) => Err(refusal_of(list, fault)),
+            },
+            Keeps::Over { input, derived } => {
+                let (out, undo) = change(derived, alloc, command, front, places, *input, steps)?;
+                Ok((out, KeepsUndo::Over(undo)))
+            }
+        }
+    }
+
+    /// Goes back to where the list stood before its last change, whose undo this is. It takes no memory.
+    pub fn retreat(&mut self, undo: KeepsUndo)
+        requires { CanRetreat undo self.old }
+        ensures back { contents self.new ≡ before undo self.old }
+        ensures room { room_of self.old ≤ room_of self.new }
+    {
+        match undo {
+            KeepsUndo::Source(undo) => match self {
+                Keeps::Source(source) => source.retreat(undo),
+                _ => unreachable!(),
+            },
+            KeepsUndo::Over(undo) => match self {
+                Keeps::Over { input: _, derived } => derived.retreat(undo),
+                _ => unreachable!(),
+            },
+        }
+    }
+}
+
+// A list takes another parameter, by what its input shows.
+fn change<L: Ledger>(
+    derived: &mut Derived,
+    alloc: Global,
+    command: &Command,
+    front: &[Node],
+    places: &[u32],
+    input: u32,
+    steps: &mut Steps<L>,
+) -> Result<(Delta, DerivedUndo), AllocError>
+    requires settled { AreSettled front.now places.now }
+    requires placed { IsPlaced front.now places.now input }
+    requires gives { Gives (view_of_derived derived.old) (parameter_of command.now) }
+    requires stands { derived_keeps.StandsFor derived.old (shown_by front.now places.now input) }
+    ensures delta { IfOk result (λ told. told.0.pieces
+        ≡ parameter_change (parameter_of command.now) (view_of_derived derived.old) (shown_by front.now places.now input)) }
+    ensures stands { OnOk result (derived_keeps.StandsFor derived.new (shown_by front.now places.now input)) }
+    ensures view { OnOk result
+        (view_of_derived derived.new ≡ view_after (parameter_of command.now) (view_of_derived derived.old)) }
+    ensures undo { IfOk result (λ told. derived_keeps.IsUndo told.1 derived.old derived.new) }
+    ensures err { OnErr result (derived_keeps.contents derived.new ≡ derived_keeps.contents derived.old) }
+    ensures room { derived_keeps.room_of derived.old ≤ derived_keeps.room_of derived.new }
+{
+    let shelf = see(front, places, input);
+    derived.change(alloc, command, &shelf, steps)
+}
+
+// A list follows a change of its input.
+fn follow<L: Ledger>(
+    derived: &mut Derived,
+    front: &[Node],
+    places: &[u32],
+    input: u32,
+    d: &Delta,
+    steps: &mut Steps<L>,
+) -> Result<(Delta, DerivedUndo), AllocError>
+    requires settled { AreSettled front.now places.now }
+    requires placed { IsPlaced front.now places.now input }
+    requires leads { LeadsTo d.now.pieces (shown_by front.now places.now input) }
+    requires stood { derived_keeps.StandsFor derived.old (undone d.now.pieces (shown_by front.now places.now input)) }
+    ensures delta { IfOk result (λ told. told.0.pieces
+        ≡ follow_of (view_of_derived derived.old) (undone d.now.pieces (shown_by front.now places.now input)) d.now.pieces) }
+    ensures stands { OnOk result (derived_keeps.StandsFor derived.new (shown_by front.now places.now input)) }
+    ensures view { OnOk result (view_of_derived derived.new ≡ view_of_derived derived.old) }
+    ensures undo { IfOk result (λ told. derived_keeps.IsUndo told.1 derived.old derived.new) }
+    ensures err { OnErr result (derived_keeps.contents derived.new ≡ derived_keeps.contents derived.old) }
+    ensures room { derived_keeps.room_of derived.old ≤ derived_keeps.room_of derived.new }
+{
+    let shelf = see(front, places, input);
+    derived.advance(&shelf, d, steps)
+}
+
+// Why the command is refused.
+fn refusal_of(list: u32, fault: EditFault) -> Refused
+    ensures { IsRefusalOf list fault result }
+{
+    match fault {
+        EditFault::OutOfRange { index, len } => Refused::OutOfRange { index, len },
+        EditFault::TooLong { len } => Refused::TooLong { list, len },
+        EditFault::Memory => Refused::Memory,
+    }
+}
