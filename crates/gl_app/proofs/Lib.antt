@@ -1,5 +1,5 @@
-pub mod WordLaws
-pub mod PlanLaws
-pub mod BuiltLaws
-pub mod RequestLaws
-pub mod CallLaws
+pub mod SpelledWords
+pub mod Plans
+pub mod BuiltPlans
+pub mod RequestOutcomes
+pub mod CallOutcomes

@@ -2,7 +2,7 @@
 use Rattle.std.specs.Prelude.{◌≡◌, ℕ, List, []}
 use Rattle.gl_plan.specs.declared.fault.PlanFault.{PlanFault}
 use Rattle.gl_plan.specs.declared.fault.PlanFault.TheVariants as fault
-use Rattle.gl_plan_texts.specs.Spelled.{fault_at}
+use Rattle.gl_text.specs.Spelled.{fault_at}
 use Rattle.spec_reports.specs.Words.{Request, Asks}
 use Rattle.spec_reports.specs.Answer.{Outcome, usage, too_large, faulty, circular, unbuilt, text_of_outcome, ComesTo}
 use Rattle.gl_app.specs.declared.status.Status.{Status}

@@ -1,5 +1,5 @@
 -- The bad places that the code finds, as the definitions have them.
-use Rattle.spec_runs.specs.Fits.{Reason as ReasonData, BadPlace as BadPlaceData, no_writer, no_section, no_proxy}
+use Rattle.spec_reports.specs.Fits.{Reason as ReasonData, BadPlace as BadPlaceData, no_writer, no_section, no_proxy}
 use Rattle.gl_app.specs.declared.replaying.Reason.{Reason}
 use Rattle.gl_app.specs.declared.replaying.Reason.TheVariants.{NoWriter, NoSection, NoProxy}
 use Rattle.gl_app.specs.declared.replaying.BadPlace.{BadPlace}

@@ -2,16 +2,16 @@
 use Rattle.std.specs.Prelude.{◌≡◌, ◌<◌, ◌≤◌, ℕ, List, [], length, take, Option, None, Some, IfSome, Result, Ok, Err, true, ⊤}
 use Rattle.std.specs.Io.KnownBytes.{Appends}
 use Rattle.gl_outside.specs.declared.gate.Actor.{Actor}
-use Rattle.gl_outside.specs.Sink.{AppendsFront}
-use Rattle.spec_plans.specs.Plan.{Plan}
-use Rattle.spec_states.specs.Shown.{EachShowsItsView}
-use Rattle.spec_canonical.specs.Canonical.{spelled_plan}
-use Rattle.spec_plan_texts.specs.Text.{SpellsPlan}
-use Rattle.spec_plan_laws.specs.Short.{HasShortLines}
-use Rattle.spec_plans.specs.Built.{is_built}
-use Rattle.spec_runs.specs.Fits.{Fits}
-use Rattle.spec_runs.specs.Laws.{EachHears}
-use Rattle.spec_runs.specs.Run.{run}
+use Rattle.gl_outside.specs.Sink.{AppendsPrefix}
+use Rattle.spec_reports.specs.Plan.{Plan}
+use Rattle.spec_reports.specs.Shown.{EachShowsItsView}
+use Rattle.spec_reports.specs.Canonical.{spelled_plan}
+use Rattle.spec_reports.specs.Text.{SpellsPlan}
+use Rattle.spec_reports.specs.Short.{HasShortLines}
+use Rattle.spec_reports.specs.Built.{is_built}
+use Rattle.spec_reports.specs.Fits.{Fits}
+use Rattle.spec_reports.specs.Laws.{EachHears}
+use Rattle.spec_reports.specs.Run.{run}
 use Rattle.spec_reports.specs.Words.{Request}
 use Rattle.spec_reports.specs.Report.{report}
 use Rattle.spec_reports.specs.Answer.{Outcome, ComesTo, text_of_outcome, most_bytes}
@@ -62,12 +62,12 @@ IsUsage TooLarge = ⊥
 IsUsage TooLong = ⊥
 
 -- the statuses that come after all of the source was read
-abbrev pub IsBehindAll : Status → Type 0
-IsBehindAll Done = ⊤
-IsBehindAll PlanStatus = ⊤
-IsBehindAll Order = ⊤
-IsBehindAll TooLong = ⊤
-IsBehindAll other = ⊥
+abbrev pub IsAfterAll : Status → Type 0
+IsAfterAll Done = ⊤
+IsAfterAll PlanStatus = ⊤
+IsAfterAll Order = ⊤
+IsAfterAll TooLong = ⊤
+IsAfterAll other = ⊥
 
 -- What was read of the source before an answer of this status: all of it, more than a plan may have, at most that, or
 -- nothing.
@@ -88,7 +88,8 @@ HasRead old new Write = (answered : Status) × HasReadFor old new answered
 HasRead old new status = HasReadFor old new status
 
 -- the status is that of what the words and the source's bytes come to, and the sink took all of its text
-pub record Answered (words : List (List ℕ)) (held old new : Option (List ℕ)) (status : Status) : Type 0 where
+pub record Answered (words : List (List ℕ)) (held old new : Option (List ℕ))
+    (status : Status) : Type 0 where
   pub bytes : List ℕ
   pub told : Tells held bytes
   pub outcome : Outcome
@@ -96,16 +97,17 @@ pub record Answered (words : List (List ℕ)) (held old new : Option (List ℕ))
   pub is : status ≡ status_of outcome
   pub taken : Appends old new (text_of_outcome outcome)
 
--- the sink took a front of that text
+-- the sink took a prefix of that text
 pub record Begun (words : List (List ℕ)) (held old new : Option (List ℕ)) : Type 0 where
   pub bytes : List ℕ
   pub told : Tells held bytes
   pub outcome : Outcome
   pub comes : ComesTo words bytes [] outcome
-  pub part : AppendsFront old new (text_of_outcome outcome)
+  pub part : AppendsPrefix old new (text_of_outcome outcome)
 
 -- what each status says
-abbrev pub IsAnswer : List (List ℕ) → Option (List ℕ) → Option (List ℕ) → Option (List ℕ) → Status → Type 0
+abbrev pub IsAnswer : List (List ℕ) → Option (List ℕ) → Option (List ℕ) → Option (List ℕ) → Status
+    → Type 0
 IsAnswer words held old new Write = Begun words held old new
 IsAnswer words held old new Read = ⊤
 IsAnswer words held old new Memory = ⊤
@@ -113,7 +115,7 @@ IsAnswer words held old new status = Answered words held old new status
 
 -- what a sink was given of an answer, by the status
 abbrev pub Gives : Option (List ℕ) → Option (List ℕ) → Answer → Status → Type 0
-Gives old new a Write = AppendsFront old new (text_at a)
+Gives old new a Write = AppendsPrefix old new (text_at a)
 Gives old new a status = (status ≡ status_at a) × Appends old new (text_at a)
 
 -- The sink took the report of the plan that the bytes spell, in the order, which fits it. At each moment of its run each

@@ -15,7 +15,8 @@ pub record Took (old new : Option (List ℕ)) (P : ℕ → Type 0) : Type 0 wher
   pub count : P (length taken)
 
 -- all the bytes, within the limit; too large exactly where more bytes than that were taken
-abbrev pub ReadsWhole : Option (List ℕ) → Option (List ℕ) → ℕ → Result (List ℕ) ReadAllFault → Type 0
+abbrev pub ReadsWhole : Option (List ℕ) → Option (List ℕ) → ℕ → Result (List ℕ) ReadAllFault
+    → Type 0
 ReadsWhole old new limit (Ok bytes) = IsWhole old new bytes × (length bytes ≤ limit)
 ReadsWhole old new limit (Err TooLarge) = Took old new (λ n. limit < n)
 ReadsWhole old new limit (Err Failed) = Took old new (λ n. n ≤ limit)

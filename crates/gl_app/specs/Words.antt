@@ -3,8 +3,8 @@ use Rattle.std.specs.Prelude.{ℕ, ◌==◌, if◌then◌else◌, List, [], ◌�
 use Rattle.std.specs.declared.vec.Vec.{Vec}
 use Rattle.gl_outside.specs.declared.gate.Actor.{Actor}
 use Rattle.gl_outside.specs.declared.gate.Actor.TheVariants.{Writer, Proxy}
-use Rattle.gl_text.specs.Numbers.{index_in}
-use Rattle.spec_texts.specs.Cuts.{with_front}
+use Rattle.gl_syntax.specs.Numbers.{index_in}
+use Rattle.spec_reports.specs.Cuts.{with_prefix}
 use Rattle.spec_reports.specs.Words.{Request as RequestData, check, replay}
 use Rattle.gl_app.specs.declared.words.Request.{Request}
 use Rattle.gl_app.specs.declared.words.Request.TheVariants.{Check, Replay}
@@ -22,17 +22,19 @@ request_of (Replay order) = replay order.items
 unfoldable pub actor_in : List ℕ → Option Actor
 actor_in [] = None
 actor_in (b ∷ bs) =
-    if b == 119 then option_map Writer (index_in bs) else if b == 112 then option_map Proxy (index_in bs) else None
+    if b == 119 then option_map Writer (index_in bs)
+    else if b == 112 then option_map Proxy (index_in bs) else None
 
 -- the bytes between commas
 abbrev pub pieces : List ℕ → List (List ℕ)
 pieces [] = [] ∷ []
-pieces (b ∷ bs) = if b == 44 then [] ∷ pieces bs else with_front b (pieces bs)
+pieces (b ∷ bs) = if b == 44 then [] ∷ pieces bs else with_prefix b (pieces bs)
 
 -- the actors that the pieces spell, one each
 abbrev pub actors_in : List (List ℕ) → Option (List Actor)
 actors_in [] = Some []
-actors_in (piece ∷ pieces) = option_and_then (λ a. option_map (λ order. a ∷ order) (actors_in pieces)) (actor_in piece)
+actors_in (piece ∷ pieces) =
+    option_and_then (λ a. option_map (λ order. a ∷ order) (actors_in pieces)) (actor_in piece)
 
 -- the order that the bytes spell
 abbrev pub order_in : List ℕ → Option (List Actor)
@@ -42,5 +44,6 @@ order_in bytes = if bytes_eq bytes (codes "-") then Some [] else actors_in (piec
 abbrev pub asked : List (List ℕ) → Option RequestData
 asked [] = None
 asked (keyword ∷ []) = if bytes_eq keyword (codes "check") then Some check else None
-asked (keyword ∷ order ∷ []) = if bytes_eq keyword (codes "replay") then option_map replay (order_in order) else None
+asked (keyword ∷ order ∷ []) =
+    if bytes_eq keyword (codes "replay") then option_map replay (order_in order) else None
 asked (keyword ∷ order ∷ more ∷ words) = None

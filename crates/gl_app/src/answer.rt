@@ -3,7 +3,7 @@
 ghost use Rattle.std.specs.Prelude.{◌≡◌};
 
 use crate::status::Status;
-use gl_value::Bytes;
+use gl_syntax::Bytes;
 
 /// What a call came to. Its text is whole.
 #[derive(Drop)]

@@ -2,10 +2,10 @@
 
 ghost use Rattle.std.specs.Prelude.{◌≡◌};
 ghost use Rattle.std.specs.List.{list_all};
-ghost use Rattle.spec_plans.specs.Built as built;
+ghost use Rattle.spec_reports.specs.Built as built;
 
-use gl_lines::{ListDecl, ListKind, ListenerDecl};
-use gl_plan_texts::Plan;
+use gl_plan::{ListDecl, ListKind, ListenerDecl};
+use gl_text::Plan;
 
 /// Whether all lists and listeners of a plan are of the kinds that are built.
 pub fn is_built(plan: &Plan) -> bool

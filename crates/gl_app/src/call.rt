@@ -12,7 +12,7 @@ use crate::answer::Answer;
 use crate::outcome::{Stop, answer_words};
 use crate::status::Status;
 use gl_outside::{Given, Sink, Source};
-use gl_value::Text;
+use gl_syntax::Text;
 use gl_world::RunName;
 use std::alloc::Global;
 
@@ -30,10 +30,12 @@ pub fn plain<S: Source, K: Sink>(
 ) -> Status
 
     // Where no count of faults rises, the words and the source's bytes fix the status and the text.
-    ensures answer { ¬ Rose (S.faults source.old) (S.faults source.new) → ¬ Rose (K.faults sink.old) (K.faults sink.new)
+    ensures answer { ¬ Rose (S.faults source.old) (S.faults source.new)
+        → ¬ Rose (K.faults sink.old) (K.faults sink.new)
         → (result ≡ Status.Memory)
         ⊎ Answered words.now (S.remaining source.old) (K.contents sink.old) (K.contents sink.new) result }
-    ensures by_status { IsAnswer words.now (S.remaining source.old) (K.contents sink.old) (K.contents sink.new) result }
+    ensures by_status { IsAnswer words.now (S.remaining source.old) (K.contents sink.old)
+        (K.contents sink.new) result }
     ensures headline { (order : List Actor) → AsksReplay words.now order → result ≡ Status.Done
         → ReportsRun order (S.remaining source.old) (K.contents sink.old) (K.contents sink.new) }
     ensures written { Asks words.now check → result ≡ Status.Done

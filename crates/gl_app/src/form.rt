@@ -4,8 +4,7 @@ ghost use Rattle.std.specs.Prelude.{◌≡◌, [], ◌∷◌, is_some};
 ghost use Rattle.gl_app.specs.Words.{pieces, actors_in, order_in, asked};
 
 use crate::words::read_actor;
-use gl_text::cut;
-use gl_value::Text;
+use gl_syntax::{Text, cut};
 
 /// Whether the words have the form of a request. It takes no memory.
 pub fn have_form(words: &[Text]) -> bool

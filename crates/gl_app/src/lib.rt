@@ -20,6 +20,6 @@ mod words;
 
 pub use call::plain;
 pub use gl_outside::{Sink, Source};
-pub use gl_value::Text;
+pub use gl_syntax::Text;
 pub use laws::one_outcome;
 pub use status::Status;

@@ -5,7 +5,7 @@ ghost use Rattle.gl_outside.specs.Faults.{Rose};
 ghost use Rattle.spec_reports.specs.Words.{HaveNoForm};
 ghost use Rattle.spec_reports.specs.Answer.{most_bytes};
 ghost use Rattle.gl_app.specs.Answer.{AnswersBytes, status_at};
-ghost use Rattle.gl_app.specs.Call.{AnswersRequest, AnswersWords, HasRead, status_after, IsUsage, IsBehindAll};
+ghost use Rattle.gl_app.specs.Call.{AnswersRequest, AnswersWords, HasRead, status_after, IsUsage, IsAfterAll};
 ghost use Rattle.gl_app.specs.Words.{request_of};
 
 use crate::answer::Answer;
@@ -14,8 +14,8 @@ use crate::reading::{ReadAllFault, read_all};
 use crate::requests::{answer_fault, answer_request};
 use crate::words::{Request, read_words};
 use gl_outside::Source;
-use gl_plan_texts::read_plan;
-use gl_value::Text;
+use gl_syntax::Text;
+use gl_text::read_plan;
 use gl_world::RunName;
 use std::alloc::{AllocError, Global};
 
@@ -48,8 +48,10 @@ pub fn answer_words<N: RunName, S: Source>(
     source: &mut S,
 ) -> Result<Answer, Stop>
     ensures answer { IfOk result (AnswersWords words.now (S.remaining source.old)) }
-    ensures reading { HasRead (S.remaining source.old) (S.remaining source.new) (status_after result) }
-    ensures no_form { HaveNoForm words.now → IsUsage (status_after result) × (source.new ≡ source.old) }
+    ensures reading { HasRead (S.remaining source.old) (S.remaining source.new)
+        (status_after result) }
+    ensures no_form { HaveNoForm words.now
+        → IsUsage (status_after result) × (source.new ≡ source.old) }
     ensures failed { IsErrOf result Stop.Read → Rose (S.faults source.old) (S.faults source.new) }
     ensures sound { S.never_fails source.old → S.faults source.new ≡ S.faults source.old }
 {
@@ -62,14 +64,16 @@ pub fn answer_words<N: RunName, S: Source>(
     }
 }
 
-#[tactic(auto, using(crate::proofs::CallLaws::read_all_of))]
+#[tactic(auto, using(crate::proofs::CallOutcomes::read_all_of))]
 fn answer_source<N: RunName, S: Source>(
     alloc: Global,
     request: &Request,
     source: &mut S,
 ) -> Result<Answer, Stop>
-    ensures answer { IfOk result (AnswersRequest (request_of request.now) (S.remaining source.old)) }
-    ensures reading { HasRead (S.remaining source.old) (S.remaining source.new) (status_after result) }
+    ensures answer { IfOk result
+        (AnswersRequest (request_of request.now) (S.remaining source.old)) }
+    ensures reading { HasRead (S.remaining source.old) (S.remaining source.new)
+        (status_after result) }
     ensures failed { IsErrOf result Stop.Read → Rose (S.faults source.old) (S.faults source.new) }
     ensures sound { S.never_fails source.old → S.faults source.new ≡ S.faults source.old }
 {
@@ -81,7 +85,7 @@ fn answer_source<N: RunName, S: Source>(
     }
 }
 
-#[tactic(auto, using(crate::proofs::RequestLaws::plan_answer, crate::proofs::RequestLaws::fault_answer, crate::proofs::RequestLaws::behind_request, crate::proofs::RequestLaws::behind_fault))]
+#[tactic(auto, using(crate::proofs::RequestOutcomes::plan_answer, crate::proofs::RequestOutcomes::fault_answer, crate::proofs::RequestOutcomes::after_request, crate::proofs::RequestOutcomes::later_fault))]
 fn answer_bytes<N: RunName>(
     alloc: Global,
     bytes: &[u8],
@@ -89,7 +93,7 @@ fn answer_bytes<N: RunName>(
 ) -> Result<Answer, AllocError>
     requires { length bytes.now ≤ most_bytes }
     ensures answer { IfOk result (AnswersBytes (request_of request.now) bytes.now) }
-    ensures status { IfOk result (λ a. IsBehindAll (status_at a)) }
+    ensures status { IfOk result (λ a. IsAfterAll (status_at a)) }
 {
     match read_plan(alloc, bytes) {
         Ok(plan) => answer_request::<N>(alloc, &plan, request),

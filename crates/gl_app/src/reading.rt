@@ -5,7 +5,7 @@ ghost use Rattle.gl_outside.specs.Faults.{Rose, GoesOn};
 ghost use Rattle.gl_app.specs.Reading.{ReadsWhole};
 
 use gl_outside::{Source, Taken};
-use gl_value::Bytes;
+use gl_syntax::Bytes;
 use std::alloc::Global;
 
 /// Why a source was not read whole.
@@ -28,9 +28,11 @@ pub fn read_all<S: Source>(
     limit: usize,
 ) -> Result<Bytes, ReadAllFault>
     ensures whole { ReadsWhole (S.remaining source.old) (S.remaining source.new) limit result }
-    ensures failed { IsErrOf result ReadAllFault.Failed → Rose (S.faults source.old) (S.faults source.new) }
+    ensures failed { IsErrOf result ReadAllFault.Failed
+        → Rose (S.faults source.old) (S.faults source.new) }
     ensures count { GoesOn (S.faults source.old) (S.faults source.new) }
-    ensures sound { S.never_fails source.old → S.never_fails source.new × (S.faults source.new ≡ S.faults source.old) }
+    ensures sound { S.never_fails source.old
+        → S.never_fails source.new × (S.faults source.new ≡ S.faults source.old) }
 {
     let mut bytes = Bytes::new(alloc);
     let mut room = [0u8; CHUNK];

@@ -1,13 +1,13 @@
 //! The entries of an order, taken one after another.
 
 ghost use Rattle.std.specs.Prelude.{◌≡◌, ◌<◌, [], true, IfOk, IfNone, option_map};
-ghost use Rattle.spec_plans.specs.Built.{is_built};
-ghost use Rattle.spec_runs.specs.Fits.{reason_at, first_bad_place};
+ghost use Rattle.spec_reports.specs.Built.{is_built};
+ghost use Rattle.spec_reports.specs.Fits.{reason_at, first_bad_place};
 ghost use Rattle.gl_world.specs.History.{with_entry};
 ghost use Rattle.gl_app.specs.BadPlace.{reason_of, bad_place_of};
 
 use gl_outside::Actor;
-use gl_value::Steps;
+use gl_syntax::Steps;
 use gl_world::{Next, RunName, World};
 use std::alloc::AllocError;
 use std::marker::Brand;
@@ -39,8 +39,10 @@ pub fn replay<N: RunName>(
 ) -> Result<Option<BadPlace>, AllocError>
     requires built { is_built world.old.plan ≡ true }
     requires open { world.old.order ≡ [] }
-    ensures bad { IfOk result (λ bad. option_map bad_place_of bad ≡ first_bad_place world.old.plan order.now) }
-    ensures whole { IfOk result (λ bad. IfNone bad (world.new ≡ record { plan = world.old.plan; order = order.now })) }
+    ensures bad { IfOk result
+        (λ bad. option_map bad_place_of bad ≡ first_bad_place world.old.plan order.now) }
+    ensures whole { IfOk result
+        (λ bad. IfNone bad (world.new ≡ record { plan = world.old.plan; order = order.now })) }
 {
     replay_counted::<N, Brand>(world, order, Blank::new(1))
 }
@@ -56,8 +58,10 @@ fn replay_counted<N: RunName, L: Ledger>(
     requires some { 0 < blank.parts }
     requires built { is_built world.old.plan ≡ true }
     requires open { world.old.order ≡ [] }
-    ensures bad { IfOk result (λ bad. option_map bad_place_of bad ≡ first_bad_place world.old.plan order.now) }
-    ensures whole { IfOk result (λ bad. IfNone bad (world.new ≡ record { plan = world.old.plan; order = order.now })) }
+    ensures bad { IfOk result
+        (λ bad. option_map bad_place_of bad ≡ first_bad_place world.old.plan order.now) }
+    ensures whole { IfOk result
+        (λ bad. IfNone bad (world.new ≡ record { plan = world.old.plan; order = order.now })) }
 {
     let mut steps: Steps<L> = Steps::new(blank);
     for (place, actor) in order.iter().enumerate() {
@@ -72,14 +76,15 @@ fn replay_counted<N: RunName, L: Ledger>(
 }
 
 // Takes the actor's next entry, or says why it can't be taken. No proxy can take any, since what is built has none.
-#[tactic(auto, using(crate::proofs::BuiltLaws::no_proxy_at))]
+#[tactic(auto, using(crate::proofs::BuiltPlans::no_proxy_at))]
 fn take_entry<N: RunName, L: Ledger>(
     world: &mut World<N>,
     actor: Actor,
     steps: &mut Steps<L>,
 ) -> Result<Option<Reason>, AllocError>
     requires { is_built world.old.plan ≡ true }
-    ensures reason { IfOk result (λ r. option_map reason_of r ≡ reason_at world.old.plan world.old.order actor) }
+    ensures reason { IfOk result
+        (λ r. option_map reason_of r ≡ reason_at world.old.plan world.old.order actor) }
     ensures entry { IfOk result (λ r. IfNone r (world.new ≡ with_entry world.old actor)) }
 {
     match actor {
@@ -95,7 +100,8 @@ fn take_section<N: RunName, L: Ledger>(
 ) -> Result<Option<Reason>, AllocError>
     ensures reason { IfOk result (λ r. option_map reason_of r
         ≡ reason_at world.old.plan world.old.order (Actor.Writer writer)) }
-    ensures entry { IfOk result (λ r. IfNone r (world.new ≡ with_entry world.old (Actor.Writer writer))) }
+    ensures entry { IfOk result
+        (λ r. IfNone r (world.new ≡ with_entry world.old (Actor.Writer writer))) }
 {
     if writer >= world.plan().writers() {
         return Ok(Some(Reason::NoWriter));

@@ -1,10 +1,10 @@
 //! What the requests for a plan come to.
 
 ghost use Rattle.std.specs.Prelude.{◌≡◌, [], true, IfOk};
-ghost use Rattle.spec_plans.specs.Built.{is_built as all_built};
-ghost use Rattle.spec_states.specs.Opening.{opening};
-ghost use Rattle.spec_states.specs.Step.{too_long as first_too_long};
-ghost use Rattle.spec_runs.specs.Fits.{first_bad_place};
+ghost use Rattle.spec_reports.specs.Built.{is_built as all_built};
+ghost use Rattle.spec_reports.specs.Opening.{opening};
+ghost use Rattle.spec_reports.specs.Step.{too_long as first_too_long};
+ghost use Rattle.spec_reports.specs.Fits.{first_bad_place};
 ghost use Rattle.spec_reports.specs.Answer.{answer_of, replayed, opened, taken};
 ghost use Rattle.gl_app.specs.Answer.{IsOf, AnswersFault};
 ghost use Rattle.gl_app.specs.Words.{request_of};
@@ -15,10 +15,9 @@ use crate::replaying::replay;
 use crate::texts::{cycle_text, fault_text, misfit_text, too_long_text};
 use crate::words::Request;
 use gl_outside::Actor;
-use gl_plan_spelling::write_plan;
-use gl_plan_texts::{Plan, PlanFault};
 use gl_report::report;
-use gl_value::Bytes;
+use gl_syntax::Bytes;
+use gl_text::{Plan, PlanFault, write_plan};
 use gl_world::{BuildFault, RunName, World};
 use std::alloc::{AllocError, Global};
 
@@ -67,14 +66,16 @@ fn answer_replay<N: RunName>(
     }
 }
 
-#[tactic(auto, using(crate::proofs::RequestLaws::opened_within, crate::proofs::RequestLaws::opened_long))]
+#[tactic(auto, using(crate::proofs::RequestOutcomes::opened_within, crate::proofs::RequestOutcomes::opened_long))]
 fn answer_built<N: RunName>(
     alloc: Global,
     plan: &Plan,
     order: &[Actor],
 ) -> Result<Answer, AllocError>
     requires { all_built plan.now ≡ true }
-    ensures { IfOk result (λ a. IsOf a (opened plan.now order.now (first_too_long plan.now.limit (opening plan.now)))) }
+    ensures { IfOk result
+        (λ a. IsOf a
+        (opened plan.now order.now (first_too_long plan.now.limit (opening plan.now)))) }
 {
     match World::<N>::open(alloc, plan) {
         Ok(mut world) => answer_world(alloc, &mut world, order),
@@ -95,7 +96,8 @@ fn answer_world<N: RunName>(
 ) -> Result<Answer, AllocError>
     requires built { all_built world.old.plan ≡ true }
     requires open { world.old.order ≡ [] }
-    ensures { IfOk result (λ a. IsOf a (taken world.old.plan order.now (first_bad_place world.old.plan order.now))) }
+    ensures { IfOk result
+        (λ a. IsOf a (taken world.old.plan order.now (first_bad_place world.old.plan order.now))) }
 {
     match replay(world, order)? {
         Some(bad) => Ok(Answer::Misfit(misfit_text(alloc, bad)?)),

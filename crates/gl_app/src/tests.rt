@@ -1,6 +1,6 @@
 use super::*;
 use gl_outside::{Calls, MemorySink, MemorySource};
-use gl_value::Bytes;
+use gl_syntax::Bytes;
 use std::alloc::Global;
 use std::test::Fail;
 
@@ -57,9 +57,9 @@ fn stops_rightly(alloc: Global, words: &[&[u8]], text: &[u8]) -> Result<bool, Fa
             return Ok(false);
         }
     }
-    let mut behind = Calls::new(alloc);
-    behind.push(calls)?;
-    let (status, _sink) = call(alloc, words, PLAN, behind, text.len())?;
+    let mut after = Calls::new(alloc);
+    after.push(calls)?;
+    let (status, _sink) = call(alloc, words, PLAN, after, text.len())?;
     Ok(status == Status::Done)
 }
 

@@ -3,13 +3,12 @@
 ghost use Rattle.std.specs.Prelude.{◌≡◌, IfOk};
 ghost use Rattle.spec_reports.specs.Answer.{faulty, circular, too_long, misfit, text_of_outcome, reason_text, kind_text};
 ghost use Rattle.spec_reports.specs.Report.{list_name};
-ghost use Rattle.gl_plan_texts.specs.Spelled.{fault_at};
+ghost use Rattle.gl_text.specs.Spelled.{fault_at};
 ghost use Rattle.gl_app.specs.BadPlace.{reason_of, bad_place_of};
 
 use crate::replaying::{BadPlace, Reason};
-use gl_lines::{ListDecl, PlanKind};
-use gl_names::Name;
-use gl_value::Bytes;
+use gl_plan::{ListDecl, PlanKind};
+use gl_syntax::{Bytes, Name};
 use itoa::Buffer;
 use std::alloc::{AllocError, Global};
 
@@ -75,7 +74,8 @@ pub fn too_long_text(
     list: u32,
     len: u128,
 ) -> Result<Bytes, AllocError>
-    ensures { IfOk result (λ text. text ≡ text_of_outcome (too_long (list_name lists.now list) len)) }
+    ensures { IfOk result
+        (λ text. text ≡ text_of_outcome (too_long (list_name lists.now list) len)) }
 {
     let mut buffer = Buffer::new();
     let mut text = Bytes::new(alloc);

@@ -5,8 +5,7 @@ ghost use Rattle.spec_reports.specs.Words.{Asks, HaveNoForm, replay};
 ghost use Rattle.gl_app.specs.Words.{actor_in, pieces, actors_in, order_in, asked, entries_of, request_of};
 
 use gl_outside::Actor;
-use gl_text::{cut, index};
-use gl_value::Text;
+use gl_syntax::{Text, cut, decimal_index};
 use std::alloc::{AllocError, Global};
 
 /// What the words of a call ask for.
@@ -18,7 +17,7 @@ pub enum Request {
     Replay(Vec<Actor>),
 }
 
-#[tactic(auto, using(crate::proofs::WordLaws::asks_what_is_asked, crate::proofs::WordLaws::no_form_without))]
+#[tactic(auto, using(crate::proofs::SpelledWords::asks_what_is_asked, crate::proofs::SpelledWords::no_form_without))]
 /// The request that the words ask for, where they have its form.
 pub fn read_words(alloc: Global, words: &[Text]) -> Result<Option<Request>, AllocError>
     ensures found { IfOk result (λ o. IfSome o (λ request. Asks words.now (request_of request))) }
@@ -32,7 +31,7 @@ fn asked_request(alloc: Global, words: &[Text]) -> Result<Option<Request>, Alloc
 {
     match words {
         [keyword] => Ok(alone(keyword.bytes())),
-        [keyword, order] => behind_keyword(alloc, keyword.bytes(), order.bytes()),
+        [keyword, order] => after_keyword(alloc, keyword.bytes(), order.bytes()),
         _ => Ok(None),
     }
 }
@@ -49,11 +48,7 @@ fn alone(keyword: &[u8]) -> Option<Request>
 }
 
 // The order that the second word spells, where the first asks for a replay.
-fn behind_keyword(
-    alloc: Global,
-    keyword: &[u8],
-    order: &[u8],
-) -> Result<Option<Request>, AllocError>
+fn after_keyword(alloc: Global, keyword: &[u8], order: &[u8]) -> Result<Option<Request>, AllocError>
     ensures { IfOk result (λ o. option_map request_of o ≡ asked (keyword.now ∷ order.now ∷ [])) }
 {
     if keyword == b"replay".as_slice() {
@@ -108,8 +103,8 @@ pub fn read_actor(bytes: &[u8]) -> Option<Actor>
     ensures { result ≡ actor_in bytes.now }
 {
     match bytes {
-        [b'w', number @ ..] => Some(Actor::Writer(index(number)?)),
-        [b'p', number @ ..] => Some(Actor::Proxy(index(number)?)),
+        [b'w', number @ ..] => Some(Actor::Writer(decimal_index(number)?)),
+        [b'p', number @ ..] => Some(Actor::Proxy(decimal_index(number)?)),
         _ => None,
     }
 }

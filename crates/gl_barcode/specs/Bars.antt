@@ -25,9 +25,9 @@ stretch_count [] = 0
 stretch_count (b ∷ bs) = cond (begins_alike b bs) 0 1 + stretch_count bs
 
 -- this place is shown, and k places before it are
-pub record IsKthShown (k : ℕ) (bs : List Bool) (place : ℕ) : Type 0 where
-  pub shown : slice_get bs place ≡ Some true
-  pub before : count_shown (take place bs) ≡ k
+pub record IsKthShown (k : ℕ) (bs : List Bool) (position : ℕ) : Type 0 where
+  pub shown : slice_get bs position ≡ Some true
+  pub before : count_shown (take position bs) ≡ k
 
 -- how many places are hidden
 unfoldable pub count_hidden : List Bool → ℕ
@@ -35,9 +35,9 @@ count_hidden [] = 0
 count_hidden (b ∷ bs) = cond b 0 1 + count_hidden bs
 
 -- this place is hidden, and k places before it are
-pub record IsKthHidden (k : ℕ) (bs : List Bool) (place : ℕ) : Type 0 where
-  pub hidden : slice_get bs place ≡ Some false
-  pub before : count_hidden (take place bs) ≡ k
+pub record IsKthHidden (k : ℕ) (bs : List Bool) (position : ℕ) : Type 0 where
+  pub hidden : slice_get bs position ≡ Some false
+  pub before : count_hidden (take position bs) ≡ k
 
 -- how many more edits fit with no memory, since an edit makes at most two stretches more
 abbrev pub spare : Bars → ℕ

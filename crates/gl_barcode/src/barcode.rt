@@ -66,25 +66,25 @@ impl Barcode {
     }
 
     /// Whether a place is shown.
-    pub fn shown(&self, place: usize) -> bool
-        requires { place < length self.now.shown }
-        ensures { slice_get self.now.shown place ≡ Some result }
+    pub fn shown(&self, position: usize) -> bool
+        requires { position < length self.now.shown }
+        ensures { slice_get self.now.shown position ≡ Some result }
     {
-        self.runs.colour(place) == 1
+        self.runs.colour(position) == 1
     }
 
     /// How many places before this one are shown.
-    pub fn rank(&self, place: usize) -> usize
-        requires { place ≤ length self.now.shown }
-        ensures { result ≡ count_shown (take place self.now.shown) }
+    pub fn rank(&self, position: usize) -> usize
+        requires { position ≤ length self.now.shown }
+        ensures { result ≡ count_shown (take position self.now.shown) }
     {
-        self.runs.rank(place, SHOWN)
+        self.runs.rank(position, SHOWN)
     }
 
     /// The place that is shown and has k shown places before it, `None` where no more than k are shown.
     pub fn select(&self, k: usize) -> Option<usize>
         ensures some { IsSome result ↔ (k < count_shown self.now.shown) }
-        ensures place { IfSome result (IsKthShown k self.now.shown) }
+        ensures position { IfSome result (IsKthShown k self.now.shown) }
     {
         self.runs.select(k, SHOWN)
     }
@@ -92,7 +92,7 @@ impl Barcode {
     /// The place that is hidden and has k hidden places before it, `None` where no more than k are hidden.
     pub fn select_hidden(&self, k: usize) -> Option<usize>
         ensures some { IsSome result ↔ (k < count_hidden self.now.shown) }
-        ensures place { IfSome result (IsKthHidden k self.now.shown) }
+        ensures position { IfSome result (IsKthHidden k self.now.shown) }
     {
         self.runs.select(k, HIDDEN)
     }

@@ -27,7 +27,8 @@ module _ {T : Type 0} where
 
   -- no handle stands at two places
   abbrev pub AreDistinct : List (ℕ × T) → Type 0
-  AreDistinct es = (h j k : ℕ) → slice_get (handles es) j ≡ Some h → slice_get (handles es) k ≡ Some h → j ≡ k
+  AreDistinct es =
+      (h j k : ℕ) → slice_get (handles es) j ≡ Some h → slice_get (handles es) k ≡ Some h → j ≡ k
 
   -- the item under a handle is another one
   abbrev pub with_item : List (ℕ × T) → ℕ → T → List (ℕ × T)

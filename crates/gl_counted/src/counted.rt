@@ -100,26 +100,26 @@ impl<T> Counted<T> {
     }
 
     /// Puts an item at a place, in room that was reserved. It takes no memory.
-    pub fn insert_reserved(&mut self, place: usize, item: T) -> Handle
-        requires in_range { place ≤ length self.old.entries }
+    pub fn insert_reserved(&mut self, position: usize, item: T) -> Handle
+        requires in_range { position ≤ length self.old.entries }
         requires few { length self.old.entries + 1 < 2 ^ 32 - 1 }
         requires has_spare { 1 ≤ spare self.old }
-        ensures entries { self.new.entries ≡ insert self.old.entries place (result, item) }
+        ensures entries { self.new.entries ≡ insert self.old.entries position (result, item) }
         ensures fresh { ¬ Contains (handles self.old.entries) result }
         ensures room { self.new.room ≡ self.old.room }
     {
-        let slot = self.tree.insert_reserved(place, ());
+        let slot = self.tree.insert_reserved(position, ());
         store(&mut self.items, slot, item);
         Handle::new(slot)
     }
 
     /// Puts an item at a place. It takes memory where there is no room, and hands the item back where
     /// there is no memory.
-    pub fn insert_at(&mut self, place: usize, item: T) -> Result<Handle, (T, AllocError)>
-        requires in_range { place ≤ length self.old.entries }
+    pub fn insert_at(&mut self, position: usize, item: T) -> Result<Handle, (T, AllocError)>
+        requires in_range { position ≤ length self.old.entries }
         requires few { length self.old.entries + 1 < 2 ^ 32 - 1 }
         ensures entries { IfOk result
-            (λ handle. self.new.entries ≡ insert self.old.entries place (handle, item)) }
+            (λ handle. self.new.entries ≡ insert self.old.entries position (handle, item)) }
         ensures fresh { IfOk result (λ handle. ¬ Contains (handles self.old.entries) handle) }
         ensures item_returned { IfErr result (λ failed. failed.0 ≡ item) }
         ensures err { OnErr result (self.new.entries ≡ self.old.entries) }
@@ -128,7 +128,7 @@ impl<T> Counted<T> {
         if self.reserve(1).is_err() {
             return Err((item, AllocError));
         }
-        Ok(self.insert_reserved(place, item))
+        Ok(self.insert_reserved(position, item))
     }
 
     /// Takes an item out of the list. Its handle is no longer live, and there is room for one more.
@@ -140,8 +140,8 @@ impl<T> Counted<T> {
         ensures room { self.new.room ≡ self.old.room }
     {
         let slot = handle.slot();
-        let place = self.tree.place(slot);
-        self.tree.remove_at(place);
+        let position = self.tree.place(slot);
+        self.tree.remove_at(position);
         take(&mut self.items, slot)
     }
 
@@ -154,10 +154,10 @@ impl<T> Counted<T> {
     }
 
     /// The handle of the item at a place, `None` where the list is no longer than that.
-    pub fn at(&self, place: usize) -> Option<Handle>
-        ensures { result ≡ slice_get (handles self.now.entries) place }
+    pub fn at(&self, position: usize) -> Option<Handle>
+        ensures { result ≡ slice_get (handles self.now.entries) position }
     {
-        match self.tree.get(place) {
+        match self.tree.get(position) {
             Some((slot, ())) => Some(Handle::new(slot)),
             None => None,
         }

@@ -6,12 +6,12 @@ use std::process::Abort;
 use std::test::Fail;
 
 // Whether a handle is live, by a look at every place.
-#[tactic(auto, using(crate::proofs::Holding::Contains_from_get))]
+#[tactic(auto, using(crate::proofs::Held::Contains_from_get))]
 fn is_live(list: &Counted<u32>, handle: Handle) -> bool
     ensures { IsTrue result → Contains (handles list.now.entries) handle }
 {
-    for place in 0..list.len() {
-        if let Some(other) = list.at(place) {
+    for position in 0..list.len() {
+        if let Some(other) = list.at(position) {
             if other == handle {
                 return true;
             }
@@ -21,15 +21,15 @@ fn is_live(list: &Counted<u32>, handle: Handle) -> bool
 }
 
 // The item at a place, by its handle.
-#[tactic(auto, using(crate::proofs::Holding::Contains_from_get))]
-fn item_at(list: &Counted<u32>, place: usize) -> Option<u32> {
-    let handle = list.at(place)?;
+#[tactic(auto, using(crate::proofs::Held::Contains_from_get))]
+fn item_at(list: &Counted<u32>, position: usize) -> Option<u32> {
+    let handle = list.at(position)?;
     Some(*list.item(handle))
 }
 
 fn holds(list: &Counted<u32>, items: &[u32]) -> bool {
-    for (place, item) in items.iter().enumerate() {
-        if item_at(list, place) != Some(*item) {
+    for (position, item) in items.iter().enumerate() {
+        if item_at(list, position) != Some(*item) {
             return false;
         }
     }
@@ -39,15 +39,16 @@ fn holds(list: &Counted<u32>, items: &[u32]) -> bool {
 fn insert(
     rt: &impl Abort,
     list: &mut Counted<u32>,
-    place: usize,
+    position: usize,
     item: u32,
 ) -> Result<Handle, &'static str> {
-    assert!(rt; place <= list.len() && list.len() < 100000);
-    list.insert_at(place, item).map_err(|_failed| "no memory")
+    assert!(rt; position <= list.len() && list.len() < 100000);
+    list.insert_at(position, item)
+        .map_err(|_failed| "no memory")
 }
 
 #[test]
-fn handles_tell_places(rt: HostRuntime) -> Result<(), Fail> {
+fn handles_tell_positions(rt: HostRuntime) -> Result<(), Fail> {
     let mut list = Counted::new(rt.alloc());
     let a = insert(&rt, &mut list, 0, 10)?;
     let b = insert(&rt, &mut list, 0, 20)?;
@@ -87,16 +88,16 @@ fn edit(
 ) -> Result<(), Fail> {
     let len = list.len();
     assert!(rt; len == plain.len() && len < 100000);
-    let place = (seed as usize / 8) % (len + 1);
-    if seed % 8 < 5 || place == len {
-        plain.insert(place, seed)?;
-        insert(rt, list, place, seed)?;
+    let position = (seed as usize / 8) % (len + 1);
+    if seed % 8 < 5 || position == len {
+        plain.insert(position, seed)?;
+        insert(rt, list, position, seed)?;
     } else {
-        let handle = list.at(place).ok_or("no handle")?;
+        let handle = list.at(position).ok_or("no handle")?;
         assert!(rt; is_live(list, handle));
-        assert_eq!(rt; list.place(handle), place);
-        assert!(rt; place < plain.len());
-        assert_eq!(rt; list.take(handle), plain.remove(place));
+        assert_eq!(rt; list.place(handle), position);
+        assert!(rt; position < plain.len());
+        assert_eq!(rt; list.take(handle), plain.remove(position));
     }
     Ok(())
 }

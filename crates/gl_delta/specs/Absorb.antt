@@ -39,12 +39,12 @@ NoneDeleted (deleted v ∷ ps) = ⊥
 NoneDeleted (inserted w ∷ ps) = NoneDeleted ps
 
 -- how many kept pieces stand in front
-abbrev pub kept_front : List Piece → ℕ
-kept_front [] = 0
-kept_front (kept ∷ ps) = suc (kept_front ps)
-kept_front (updated v w ∷ ps) = 0
-kept_front (deleted v ∷ ps) = 0
-kept_front (inserted w ∷ ps) = 0
+abbrev pub kept_prefix : List Piece → ℕ
+kept_prefix [] = 0
+kept_prefix (kept ∷ ps) = suc (kept_prefix ps)
+kept_prefix (updated v w ∷ ps) = 0
+kept_prefix (deleted v ∷ ps) = 0
+kept_prefix (inserted w ∷ ps) = 0
 
 -- so many changes, of which the last is the last piece
 abbrev pub EndsChanged : ℕ → List Piece → Type 0
@@ -56,9 +56,9 @@ EndsChanged (suc n) (updated v w ∷ ps) = EndsChanged n ps
 EndsChanged (suc n) (deleted v ∷ ps) = EndsChanged n ps
 EndsChanged (suc n) (inserted w ∷ ps) = EndsChanged n ps
 
--- a cursor stands right behind its changes, none of them a deletion
+-- a cursor stands right after its changes, none of them a deletion
 pub record IsCursor (ps : List Piece) (c : Cursor) : Type 0 where
-  pub within : c.place ≤ length ps
-  pub behind : EndsChanged c.changes (take c.place ps)
-  pub olds : c.at ≡ old_len (take c.place ps)
-  pub none_deleted : NoneDeleted (take c.place ps)
+  pub within : c.position ≤ length ps
+  pub later : EndsChanged c.changes (take c.position ps)
+  pub olds : c.at ≡ old_len (take c.position ps)
+  pub none_deleted : NoneDeleted (take c.position ps)

@@ -1,8 +1,8 @@
 pub mod Marks
 pub mod Listed
 pub mod Store
-pub mod Turns
-pub mod Told
+pub mod DependencyOrder
+pub mod Model
 pub mod Pieces
 pub mod Cells
 pub mod Old

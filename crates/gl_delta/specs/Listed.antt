@@ -11,4 +11,5 @@ pub record Listed : Type 0 where
 
 abbrev pub listed_code : Coded Listed
 listed_code =
-    code_by (List Tree × ℕ) (coded× (coded_list tree_code) coded_ℕ) (λ t. (t.values, t.room)) (λ p. record { values = p.0; room = p.1 }) (λ _. refl)
+    code_by (List Tree × ℕ) (coded× (coded_list tree_code) coded_ℕ) (λ t. (t.values, t.room))
+    (λ p. record { values = p.0; room = p.1 }) (λ _. refl)

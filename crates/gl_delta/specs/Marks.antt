@@ -47,7 +47,7 @@ BeginsOn New (deleted v ∷ ps) = ⊥
 BeginsOn New (inserted w ∷ ps) = Unit {0}
 
 -- a place among the pieces is that of an element of a list by its place there, or the end
-pub record IsSelected (side : Side) (ps : List Piece) (place found : ℕ) : Type 0 where
+pub record IsSelected (side : Side) (ps : List Piece) (position found : ℕ) : Type 0 where
   pub within : found ≤ length ps
-  pub before : side_len side (take found ps) ≡ place
+  pub before : side_len side (take found ps) ≡ position
   pub here : BeginsOn side (drop found ps)

@@ -26,9 +26,12 @@ part_items items p = part_of p.delta.now.pieces p.upto (items p.new.now)
 
 -- of [5, 7, 6, 9] where 5 and 9 were kept, 7 was updated and 6 inserted: all below 2, and 9
 abbrev one_delta : List Piece
-one_delta = kept ∷ updated (num (pos 8)) (num (pos 7)) ∷ deleted (num (pos 1)) ∷ inserted (num (pos 6)) ∷ kept ∷ []
+one_delta =
+    kept ∷ updated (num (pos 8)) (num (pos 7)) ∷ deleted (num (pos 1)) ∷ inserted (num (pos 6))
+    ∷ kept ∷ []
 
-one_part : part_of one_delta 2 (num (pos 5) ∷ num (pos 7) ∷ num (pos 6) ∷ num (pos 9) ∷ []) ≡ num (pos 5) ∷ num (pos 7) ∷ num (pos 9) ∷ []
+one_part : part_of one_delta 2 (num (pos 5) ∷ num (pos 7) ∷ num (pos 6) ∷ num (pos 9) ∷ [])
+    ≡ num (pos 5) ∷ num (pos 7) ∷ num (pos 9) ∷ []
 one_part = refl
 
 -- how many elements have an equal partner
@@ -39,9 +42,9 @@ plain_len (changed i w ∷ xs) = plain_len xs
 plain_len (lone w ∷ xs) = plain_len xs
 
 -- the place of an element by its number among those that have an equal partner
-abbrev pub plain_place : List Item → ℕ → Option ℕ
-plain_place [] k = None
-plain_place (plain i ∷ xs) zero = Some 0
-plain_place (plain i ∷ xs) (suc k) = option_map suc (plain_place xs k)
-plain_place (changed i w ∷ xs) k = option_map suc (plain_place xs k)
-plain_place (lone w ∷ xs) k = option_map suc (plain_place xs k)
+abbrev pub plain_position : List Item → ℕ → Option ℕ
+plain_position [] k = None
+plain_position (plain i ∷ xs) zero = Some 0
+plain_position (plain i ∷ xs) (suc k) = option_map suc (plain_position xs k)
+plain_position (changed i w ∷ xs) k = option_map suc (plain_position xs k)
+plain_position (lone w ∷ xs) k = option_map suc (plain_position xs k)

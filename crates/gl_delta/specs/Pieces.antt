@@ -6,13 +6,13 @@ use Rattle.spec_lists.specs.Delta.{composed}
 use Rattle.gl_delta.specs.declared.mark.Changed.{Changed}
 use Rattle.gl_delta.specs.declared.mark.Changed.TheVariants.{Updated, Deleted, Inserted}
 use Rattle.gl_delta.specs.declared.mark.TheConstants.{MOST}
-use Rattle.gl_delta.specs.Told.{Told}
+use Rattle.gl_delta.specs.Model.{DeltaModel}
 
-abbrev pub pieces : Told → List Piece
+abbrev pub pieces : DeltaModel → List Piece
 pieces t = t.pieces
 
 -- for how many changed pieces it has room
-abbrev pub room : Told → ℕ
+abbrev pub room : DeltaModel → ℕ
 room t = t.room
 
 -- whether a piece is there, and of that kind
@@ -81,22 +81,23 @@ AllDeleted (updated v w ∷ ps) = ⊥
 AllDeleted (deleted v ∷ ps) = AllDeleted ps
 AllDeleted (inserted w ∷ ps) = ⊥
 
--- insertions stand from one place up to another, and behind them deletions up to a third
-pub record AreBehind (ps : List Piece) (to from end : ℕ) : Type 0 where
-  pub front : List Piece
+-- insertions stand from one place up to another, and after them deletions up to a third
+pub record AreAfter (ps : List Piece) (to from end : ℕ) : Type 0 where
+  pub prefix : List Piece
   pub insertions : List Piece
   pub deletions : List Piece
   pub rest : List Piece
-  pub is : ps ≡ front ++ (insertions ++ (deletions ++ rest))
-  pub to_is : to ≡ length front
+  pub is : ps ≡ prefix ++ (insertions ++ (deletions ++ rest))
+  pub to_is : to ≡ length prefix
   pub from_is : from ≡ to + length insertions
   pub end_is : end ≡ from + length deletions
   pub are_inserted : AllInserted insertions
   pub are_deleted : AllDeleted deletions
 
 -- the deletions before the insertions
-abbrev pub brought_forward : {ps : List Piece} {to from end : ℕ} → AreBehind ps to from end → List Piece
-brought_forward b = b.front ++ (b.deletions ++ (b.insertions ++ b.rest))
+abbrev pub brought_forward : {ps : List Piece} {to from end : ℕ} → AreAfter ps to from end
+    → List Piece
+brought_forward b = b.prefix ++ (b.deletions ++ (b.insertions ++ b.rest))
 
 -- a deletion may follow
 abbrev pub EndsUninserted : List Piece → Type 0

@@ -11,6 +11,6 @@ kept_len (deleted v ∷ ps) = kept_len ps
 kept_len (inserted w ∷ ps) = kept_len ps
 
 -- a place is that of a kept piece, before which stand so many other kept ones
-pub record IsKeptAt (ps : List Piece) (k place : ℕ) : Type 0 where
-  pub got : slice_get ps place ≡ Some kept
-  pub before : kept_len (take place ps) ≡ k
+pub record IsKeptAt (ps : List Piece) (k position : ℕ) : Type 0 where
+  pub got : slice_get ps position ≡ Some kept
+  pub before : kept_len (take position ps) ≡ k

@@ -3,7 +3,7 @@
 use Rattle.std.specs.Prelude.{◌≡◌, ◌*◌, ◌-◌, ◌≤◌, ◌++◌, ℕ, suc, pos, List, [], ◌∷◌, map, take, drop, refl}
 use Rattle.std.proofs.Common.{zero}
 use Rattle.spec_value.specs.Tree.{Tree, num}
-use Rattle.spec_lists.specs.Piece.{Piece, kept, updated, deleted, inserted, turned}
+use Rattle.spec_lists.specs.Piece.{Piece, kept, updated, deleted, inserted, inverted}
 use Rattle.spec_lists.specs.Changes.{changed_len}
 use Rattle.gl_fourcolour.specs.Colours.{Colours}
 use Rattle.gl_delta.specs.Listed.{Listed}
@@ -38,14 +38,14 @@ told_old (inserted w) = []
 
 -- the new one
 abbrev pub told_new : Piece → List Tree
-told_new p = told_old (turned p)
+told_new p = told_old (inverted p)
 
 abbrev pub old_values : List Piece → List Tree
 old_values [] = []
 old_values (p ∷ ps) = told_old p ++ old_values ps
 
 abbrev pub new_values : List Piece → List Tree
-new_values ps = old_values (map turned ps)
+new_values ps = old_values (map inverted ps)
 
 -- how many old or new values a piece of this kind tells
 abbrev pub told_count : Side → Kind → ℕ
@@ -73,20 +73,23 @@ told_by _ _ _ = []
 
 -- What a store keeps: the colours and values of pieces, and room for so many changed pieces, whatever they are. Pieces of
 -- which n are changed have at most 2 n + 1 maximal runs of one colour.
-pub record IsStored (colours : Colours) (olds news : Listed) (room : ℕ) (ps : List Piece) : Type 0 where
-  pub colours_are : colours.colours ≡ map colour_of ps
-  pub olds_are : olds.values ≡ old_values ps
-  pub news_are : news.values ≡ new_values ps
-  pub old_room : room ≤ olds.room
-  pub new_room : room ≤ news.room
-  pub run_room : 2 * room ≤ colours.room - 1
-  pub within : changed_len ps ≤ room
+pub record IsStored (colours : Colours) (olds news : Listed) (room : ℕ) (ps : List Piece) : Type 0
+  where
+    pub colours_are : colours.colours ≡ map colour_of ps
+    pub olds_are : olds.values ≡ old_values ps
+    pub news_are : news.values ≡ new_values ps
+    pub old_room : room ≤ olds.room
+    pub new_room : room ≤ news.room
+    pub run_room : 2 * room ≤ colours.room - 1
+    pub within : changed_len ps ≤ room
 
 -- two pieces deleted and one inserted between an updated and a kept one
 abbrev some : List Piece
-some = updated (num (pos 1)) (num (pos 2)) ∷ deleted (num (pos 3)) ∷ deleted (num (pos 4)) ∷ inserted (num (pos 5)) ∷ kept ∷ []
+some = updated (num (pos 1)) (num (pos 2)) ∷ deleted (num (pos 3)) ∷ deleted (num (pos 4))
+    ∷ inserted (num (pos 5)) ∷ kept ∷ []
 
-some_told : told_by (1 ∷ 2 ∷ 2 ∷ 3 ∷ 0 ∷ []) (num (pos 1) ∷ num (pos 3) ∷ num (pos 4) ∷ []) (num (pos 2) ∷ num (pos 5) ∷ []) ≡ some
+some_told : told_by (1 ∷ 2 ∷ 2 ∷ 3 ∷ 0 ∷ []) (num (pos 1) ∷ num (pos 3) ∷ num (pos 4) ∷ [])
+    (num (pos 2) ∷ num (pos 5) ∷ []) ≡ some
 some_told = refl
 
 some_colours : map colour_of some ≡ 1 ∷ 2 ∷ 2 ∷ 3 ∷ 0 ∷ []

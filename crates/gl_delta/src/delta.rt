@@ -33,11 +33,11 @@ pub struct Delta {
 }
 
 impl Model for Delta {
-    ghost use Rattle.gl_delta.specs.Told.{Told, told_code};
+    ghost use Rattle.gl_delta.specs.Model.{DeltaModel, delta_model_code};
 
-    ghost Value = { Told };
+    ghost Value = { DeltaModel };
 
-    ghost coded = { told_code };
+    ghost coded = { delta_model_code };
 
     ghost use Rattle.gl_delta.specs.Pieces.{pieces, room, IsKept};
 
@@ -100,7 +100,8 @@ impl Delta {
     pub fn push(&mut self, c: Cell) -> Result<(), (Cell, AllocError)>
         requires olds { old_len self.old.pieces + old_len (pieces_in (cell_of c)) ≤ MOST }
         requires news { new_len self.old.pieces + new_len (pieces_in (cell_of c)) ≤ MOST }
-        ensures ok { OnOk result (self.new.pieces ≡ normal (self.old.pieces ++ pieces_in (cell_of c))) }
+        ensures ok { OnOk result
+            (self.new.pieces ≡ normal (self.old.pieces ++ pieces_in (cell_of c))) }
         ensures err { OnErr result (self.new.pieces ≡ self.old.pieces) }
         ensures back { IfErr result (λ e. e.0 ≡ c) }
         ensures room { self.old.room ≤ self.new.room }
@@ -147,7 +148,9 @@ impl Delta {
     pub fn record_insert(&mut self, at: usize, v: Value) -> Result<(), (Value, AllocError)>
         requires within { at ≤ new_len self.old.pieces }
         requires few { new_len self.old.pieces + 1 ≤ MOST }
-        ensures ok { OnOk result (self.new.pieces ≡ composed self.old.pieces (one_insert (new_len self.old.pieces) at v)) }
+        ensures ok { OnOk result
+            (self.new.pieces
+            ≡ composed self.old.pieces (one_insert (new_len self.old.pieces) at v)) }
         ensures err { OnErr result (self.new.pieces ≡ self.old.pieces) }
         ensures back { IfErr result (λ e. e.0 ≡ v) }
         ensures room { self.old.room ≤ self.new.room }
@@ -166,7 +169,9 @@ impl Delta {
         new: Value,
     ) -> Result<(), (Value, Value, AllocError)>
         requires { at < new_len self.old.pieces }
-        ensures ok { OnOk result (self.new.pieces ≡ composed self.old.pieces (one_set (new_len self.old.pieces) at old new)) }
+        ensures ok { OnOk result
+            (self.new.pieces
+            ≡ composed self.old.pieces (one_set (new_len self.old.pieces) at old new)) }
         ensures err { OnErr result (self.new.pieces ≡ self.old.pieces) }
         ensures back { IfErr result (λ e. (e.0 ≡ old) × (e.1 ≡ new)) }
         ensures room { self.old.room ≤ self.new.room }
@@ -179,7 +184,9 @@ impl Delta {
     /// `record_insert`.
     pub fn record_remove(&mut self, at: usize, old: Value) -> Result<(), (Value, AllocError)>
         requires { at < new_len self.old.pieces }
-        ensures ok { OnOk result (self.new.pieces ≡ composed self.old.pieces (one_remove (new_len self.old.pieces) at old)) }
+        ensures ok { OnOk result
+            (self.new.pieces
+            ≡ composed self.old.pieces (one_remove (new_len self.old.pieces) at old)) }
         ensures err { OnErr result (self.new.pieces ≡ self.old.pieces) }
         ensures back { IfErr result (λ e. e.0 ≡ old) }
         ensures room { self.old.room ≤ self.new.room }
@@ -208,7 +215,8 @@ impl Delta {
     /// logarithmic in the changes of both.
     pub fn absorb(&mut self, next: Delta)
         requires fits { old_len next.pieces ≡ new_len self.old.pieces }
-        requires spare { changed_len self.old.pieces + cells_together self.old.pieces next.pieces ≤ self.old.room }
+        requires spare { changed_len self.old.pieces + cells_together self.old.pieces next.pieces
+            ≤ self.old.room }
         ensures pieces { self.new.pieces ≡ composed self.old.pieces next.pieces }
         ensures room { self.old.room ≤ self.new.room }
     {
@@ -217,11 +225,11 @@ impl Delta {
     }
 
     /// What became of an element of the old list: kept, at this new place; or its value where it was updated or deleted.
-    pub fn old_at(&self, place: usize) -> Old<'_>
-        requires { place < old_len self.now.pieces }
-        ensures { IsOldAt (sides self.now.pieces).old place result }
+    pub fn old_at(&self, position: usize) -> Old<'_>
+        requires { position < old_len self.now.pieces }
+        ensures { IsOldAt (sides self.now.pieces).old position result }
     {
-        self.store.old_at(place)
+        self.store.old_at(position)
     }
 
     /// An equal delta, whose values share what this one's hold. It takes memory for its changes.
@@ -243,7 +251,7 @@ impl Delta {
         self.store.changes()
     }
 
-    /// The cells behind so many changes. It takes no step for those that it leaves out.
+    /// The cells after so many changes. It takes no step for those that it leaves out.
     pub fn cells_from(&self, changes: usize) -> Cells<'_>
         requires { changes ≤ changed_len self.now.pieces }
         ensures { cells_rest result ≡ cells_of (after_changes changes self.now.pieces) }

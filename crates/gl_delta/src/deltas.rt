@@ -16,11 +16,11 @@ pub struct Deltas {
 impl Model for Deltas {
     ghost use Rattle.std.specs.Prelude.{List, Option};
     ghost use Rattle.std.specs.Coded.{coded_list, coded_option};
-    ghost use Rattle.gl_delta.specs.Told.{Told, told_code};
+    ghost use Rattle.gl_delta.specs.Model.{DeltaModel, delta_model_code};
 
-    ghost Value = { List (Option Told) };
+    ghost Value = { List (Option DeltaModel) };
 
-    ghost coded = { coded_list (coded_option told_code) };
+    ghost coded = { coded_list (coded_option delta_model_code) };
 
     ghost view = { λ d. d.slots.items };
 }

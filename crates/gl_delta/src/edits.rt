@@ -19,14 +19,16 @@ pub(crate) fn insert_at(store: &mut Pieces, at: usize, v: Value) -> Result<(), (
     requires within { at ≤ new_len (pieces store.old) }
     requires few { length (pieces store.old) + 1 ≤ 2 * MOST }
     requires normal { IsNormal (pieces store.old) }
-    ensures ok { OnOk result (IsComposed (pieces store.old) (one_insert (new_len (pieces store.old)) at v) (pieces store.new)) }
+    ensures ok { OnOk result
+        (IsComposed (pieces store.old) (one_insert (new_len (pieces store.old)) at v)
+        (pieces store.new)) }
     ensures err { OnErr result (pieces store.new ≡ pieces store.old) }
     ensures back { IfErr result (λ e. e.0 ≡ v) }
     ensures full { OnErr result (room store.old ≤ changed_len (pieces store.old)) }
     ensures room { room store.old ≤ room store.new }
 {
-    let place = store.select(Side::New, at);
-    match store.put(place, Changed::Inserted(v)) {
+    let position = store.select(Side::New, at);
+    match store.put(position, Changed::Inserted(v)) {
         Ok(()) => Ok(()),
         Err((change, failed)) => Err((first(change), failed)),
     }
@@ -42,15 +44,17 @@ pub(crate) fn set_at(
     requires within { at < new_len (pieces store.old) }
     requires few { length (pieces store.old) ≤ 2 * MOST }
     requires normal { IsNormal (pieces store.old) }
-    ensures ok { OnOk result (IsComposed (pieces store.old) (one_set (new_len (pieces store.old)) at old new) (pieces store.new)) }
+    ensures ok { OnOk result
+        (IsComposed (pieces store.old) (one_set (new_len (pieces store.old)) at old new)
+        (pieces store.new)) }
     ensures err { OnErr result (pieces store.new ≡ pieces store.old) }
     ensures back { IfErr result (λ e. (e.0 ≡ old) × (e.1 ≡ new)) }
     ensures full { OnErr result (room store.old ≤ changed_len (pieces store.old)) }
     ensures room { room store.old ≤ room store.new }
 {
-    let place = store.select(Side::New, at);
-    if store.is_kept(place) {
-        return match replace_kept(store, place, Changed::Updated(old, new)) {
+    let position = store.select(Side::New, at);
+    if store.is_kept(position) {
+        return match replace_kept(store, position, Changed::Updated(old, new)) {
             Ok(()) => Ok(()),
             Err((change, failed)) => {
                 let (old, new) = both(change);
@@ -58,8 +62,8 @@ pub(crate) fn set_at(
             }
         };
     }
-    let change = store.take(place);
-    store.put_back(place, renewed(change, new));
+    let change = store.take(position);
+    store.put_back(position, renewed(change, new));
     Ok(())
 }
 
@@ -72,27 +76,29 @@ pub(crate) fn remove_at(
     requires within { at < new_len (pieces store.old) }
     requires few { length (pieces store.old) ≤ 2 * MOST }
     requires normal { IsNormal (pieces store.old) }
-    ensures ok { OnOk result (IsComposed (pieces store.old) (one_remove (new_len (pieces store.old)) at old) (pieces store.new)) }
+    ensures ok { OnOk result
+        (IsComposed (pieces store.old) (one_remove (new_len (pieces store.old)) at old)
+        (pieces store.new)) }
     ensures err { OnErr result (pieces store.new ≡ pieces store.old) }
     ensures back { IfErr result (λ e. e.0 ≡ old) }
     ensures full { OnErr result (room store.old ≤ changed_len (pieces store.old)) }
     ensures room { room store.old ≤ room store.new }
 {
-    let place = store.select(Side::New, at);
-    if store.is_kept(place) {
-        if let Err((change, failed)) = replace_kept(store, place, Changed::Deleted(old)) {
+    let position = store.select(Side::New, at);
+    if store.is_kept(position) {
+        if let Err((change, failed)) = replace_kept(store, position, Changed::Deleted(old)) {
             return Err((first(change), failed));
         }
-        settle(store, place);
+        settle(store, position);
         return Ok(());
     }
-    if store.is_inserted(place) {
-        discard(store.take(place));
+    if store.is_inserted(position) {
+        discard(store.take(position));
         return Ok(());
     }
-    let change = store.take(place);
-    store.put_back(place, Changed::Deleted(first(change)));
-    settle(store, place);
+    let change = store.take(position);
+    store.put_back(position, Changed::Deleted(first(change)));
+    settle(store, position);
     Ok(())
 }
 
@@ -108,19 +114,22 @@ pub(crate) fn push(store: &mut Pieces, change: Changed) -> Result<(), (Changed, 
     if change.is_on(Side::New) {
         return store.append(change);
     }
-    let place = run_start(store, store.len());
-    store.put(place, change)
+    let position = run_start(store, store.len());
+    store.put(position, change)
 }
 
 // A changed piece in place of a kept one.
 fn replace_kept(
     store: &mut Pieces,
-    place: usize,
+    position: usize,
     change: Changed,
 ) -> Result<(), (Changed, AllocError)>
-    requires kept { slice_get (pieces store.old) place ≡ Some kept }
+    requires kept { slice_get (pieces store.old) position ≡ Some kept }
     requires few { length (pieces store.old) ≤ 2 * MOST }
-    ensures ok { OnOk result (pieces store.new ≡ take place (pieces store.old) ++ piece_of change ∷ drop (suc place) (pieces store.old)) }
+    ensures ok { OnOk result
+        (pieces store.new
+        ≡ take position (pieces store.old)
+        ++ piece_of change ∷ drop (suc position) (pieces store.old)) }
     ensures err { OnErr result (pieces store.new ≡ pieces store.old) }
     ensures back { IfErr result (λ e. e.0 ≡ change) }
     ensures full { OnErr result (room store.old ≤ changed_len (pieces store.old)) }
@@ -129,15 +138,15 @@ fn replace_kept(
     if store.reserve(1).is_err() {
         return Err((change, AllocError));
     }
-    store.drop_kept(place);
-    store.put_back(place, change);
+    store.drop_kept(position);
+    store.put_back(position, change);
     Ok(())
 }
 
-/// Deletions from a place on moved in front of the insertions before it, so that all is in normal form.
+/// Deletions from a place on moved before the insertions before it, so that all is in normal form.
 pub(crate) fn settle(store: &mut Pieces, at: usize)
     requires within { at ≤ length (pieces store.old) }
-    requires front { IsNormal (take at (pieces store.old)) }
+    requires prefix { IsNormal (take at (pieces store.old)) }
     requires back { IsNormal (drop at (pieces store.old)) }
     requires few { length (pieces store.old) ≤ 2 * MOST }
     ensures value { pieces store.new ≡ normal (pieces store.old) }
@@ -154,7 +163,7 @@ pub(crate) fn settle(store: &mut Pieces, at: usize)
 // Where the insertions begin that end at a place.
 fn run_start(store: &Pieces, end: usize) -> usize
     requires within { end ≤ length (pieces store.now) }
-    requires front { IsNormal (take end (pieces store.now)) }
+    requires prefix { IsNormal (take end (pieces store.now)) }
     ensures within { result ≤ end }
     ensures run { AllInserted (take (end - result) (drop result (pieces store.now))) }
     ensures before { EndsUninserted (take result (pieces store.now)) }

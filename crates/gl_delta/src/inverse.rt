@@ -13,7 +13,7 @@ impl Delta {
     {
         let Delta { store, olds, news } = self;
         Delta {
-            store: store.turned(),
+            store: store.inverted(),
             olds: news,
             news: olds,
         }

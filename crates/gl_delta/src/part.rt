@@ -5,7 +5,7 @@ ghost use Rattle.spec_lists.specs.Piece.{new_len};
 ghost use Rattle.gl_delta.specs.Part.{part_of, part_items};
 
 use crate::delta::Delta;
-use crate::plain::{plain_before, plain_place};
+use crate::plain::{plain_before, plain_position};
 use gl_value::{Shelf, Value};
 
 /// The elements of a delta's new list below a place, then those from there on that are of a plain pair: what a
@@ -46,12 +46,11 @@ impl<'a, S: Shelf> Shelf for Part<'a, S> {
         self.upto + (plain_before(self.delta, all) - before)
     }
 
-    fn get(&self, place: usize) -> Option<&Value> {
-        if place < self.upto {
-            return self.new.get(place);
+    fn get(&self, position: usize) -> Option<&Value> {
+        if position < self.upto {
+            return self.new.get(position);
         }
         let before = plain_before(self.delta, self.upto);
-        self.new
-            .get(plain_place(self.delta, before + (place - self.upto))?)
+        self.new.get(plain_position(self.delta, before + (position - self.upto))?)
     }
 }

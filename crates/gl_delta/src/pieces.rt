@@ -3,7 +3,7 @@
 //! edit moves.
 
 ghost use Rattle.std.specs.Prelude.{◌↔◌, IsTrue, ◌≡◌, ◌+◌, ◌*◌, ◌<◌, ◌≤◌, [], length, insert, remove, IfOk, IfErr, OnOk, OnErr, MatchOption, Some, false, slice_get, option_map, ◌++◌, ◌∷◌, take, drop, map};
-ghost use Rattle.spec_lists.specs.Piece.{Piece, kept, identity, old_len, normal, turned, IsNormal};
+ghost use Rattle.spec_lists.specs.Piece.{Piece, kept, identity, old_len, normal, inverted, IsNormal};
 ghost use Rattle.spec_lists.specs.Cells.{cells_of, pieces_in};
 ghost use Rattle.spec_lists.specs.Changes.{after_changes, changed_len};
 ghost use Rattle.spec_lists.specs.Sides.{olds};
@@ -12,7 +12,7 @@ ghost use Rattle.gl_delta.specs.Plain.{kept_len, IsKeptAt};
 ghost use Rattle.gl_delta.specs.Cells.{cells_rest, cell_ref};
 ghost use Rattle.gl_delta.specs.Marks.{piece_of, IsSelected, side_len, kind_of};
 ghost use Rattle.gl_delta.specs.declared.mark.TheConstants.{MOST};
-ghost use Rattle.gl_delta.specs.Pieces.{pieces, room, is_kept_piece, is_inserted_piece, is_deleted_piece, brought_forward, AreBehind, IsNextChanged};
+ghost use Rattle.gl_delta.specs.Pieces.{pieces, room, is_kept_piece, is_inserted_piece, is_deleted_piece, brought_forward, AreAfter, IsNextChanged};
 
 use crate::cell::{CellRef, Old};
 use crate::cells::Cells;
@@ -36,12 +36,12 @@ pub(crate) struct Pieces {
 }
 
 impl Model for Pieces {
-    ghost use Rattle.gl_delta.specs.Told.{Told, told_code};
+    ghost use Rattle.gl_delta.specs.Model.{DeltaModel, delta_model_code};
     ghost use Rattle.gl_delta.specs.Store.{told_by, IsStored};
 
-    ghost Value = { Told };
+    ghost Value = { DeltaModel };
 
-    ghost coded = { told_code };
+    ghost coded = { delta_model_code };
 
     ghost view = { λ p. record {
       pieces = told_by p.colours.colours p.olds.values p.news.values;
@@ -76,55 +76,56 @@ impl Pieces {
     }
 
     /// The place of an element of one list among the pieces; at the list's length the number of pieces.
-    pub(crate) fn select(&self, side: Side, place: usize) -> usize
-        requires within { place ≤ side_len side (pieces self.now) }
-        ensures { IsSelected side (pieces self.now) place result }
+    pub(crate) fn select(&self, side: Side, position: usize) -> usize
+        requires within { position ≤ side_len side (pieces self.now) }
+        ensures { IsSelected side (pieces self.now) position result }
     {
-        match self.colours.select(place, side.mask()) {
+        match self.colours.select(position, side.mask()) {
             Some(found) => found,
             None => self.colours.len(),
         }
     }
 
     /// How many elements of one list stand before a place among the pieces.
-    pub(crate) fn rank(&self, side: Side, place: usize) -> usize
-        requires { place ≤ length (pieces self.now) }
-        ensures { result ≡ side_len side (take place (pieces self.now)) }
+    pub(crate) fn rank(&self, side: Side, position: usize) -> usize
+        requires { position ≤ length (pieces self.now) }
+        ensures { result ≡ side_len side (take position (pieces self.now)) }
     {
-        self.colours.rank(place, side.mask())
+        self.colours.rank(position, side.mask())
     }
 
     /// How many kept pieces stand before a place among the pieces.
-    pub(crate) fn kept_before(&self, place: usize) -> usize
-        requires { place ≤ length (pieces self.now) }
-        ensures { result ≡ kept_len (take place (pieces self.now)) }
+    pub(crate) fn kept_before(&self, position: usize) -> usize
+        requires { position ≤ length (pieces self.now) }
+        ensures { result ≡ kept_len (take position (pieces self.now)) }
     {
-        self.colours.rank(place, KEPT_ALONE)
+        self.colours.rank(position, KEPT_ALONE)
     }
 
     /// The place of a kept piece by its number among those, `None` where there are no more than so many.
     pub(crate) fn kept_at(&self, k: usize) -> Option<usize>
-        ensures { MatchOption result (kept_len (pieces self.now) ≤ k) (IsKeptAt (pieces self.now) k) }
+        ensures { MatchOption result (kept_len (pieces self.now) ≤ k)
+            (IsKeptAt (pieces self.now) k) }
     {
         self.colours.select(k, KEPT_ALONE)
     }
 
-    /// What the piece at a place is, `None` behind the last one.
-    pub(crate) fn kind(&self, place: usize) -> Option<Kind>
-        ensures { result ≡ option_map kind_of (slice_get (pieces self.now) place) }
+    /// What the piece at a place is, `None` after the last one.
+    pub(crate) fn kind(&self, position: usize) -> Option<Kind>
+        ensures { result ≡ option_map kind_of (slice_get (pieces self.now) position) }
     {
-        if place < self.colours.len() {
-            Some(Kind::of_colour(self.colours.colour(place)))
+        if position < self.colours.len() {
+            Some(Kind::of_colour(self.colours.colour(position)))
         } else {
             None
         }
     }
 
     /// Whether a kept piece stands at a place.
-    pub(crate) fn is_kept(&self, place: usize) -> bool
-        ensures { result ≡ is_kept_piece (slice_get (pieces self.now) place) }
+    pub(crate) fn is_kept(&self, position: usize) -> bool
+        ensures { result ≡ is_kept_piece (slice_get (pieces self.now) position) }
     {
-        match self.kind(place) {
+        match self.kind(position) {
             Some(Kind::Kept) => true,
             Some(Kind::Updated) => false,
             Some(Kind::Deleted) => false,
@@ -134,10 +135,10 @@ impl Pieces {
     }
 
     /// Whether an inserted piece stands at a place.
-    pub(crate) fn is_inserted(&self, place: usize) -> bool
-        ensures { result ≡ is_inserted_piece (slice_get (pieces self.now) place) }
+    pub(crate) fn is_inserted(&self, position: usize) -> bool
+        ensures { result ≡ is_inserted_piece (slice_get (pieces self.now) position) }
     {
-        match self.kind(place) {
+        match self.kind(position) {
             Some(Kind::Kept) => false,
             Some(Kind::Updated) => false,
             Some(Kind::Deleted) => false,
@@ -147,10 +148,10 @@ impl Pieces {
     }
 
     /// Whether a deleted piece stands at a place.
-    pub(crate) fn is_deleted(&self, place: usize) -> bool
-        ensures { result ≡ is_deleted_piece (slice_get (pieces self.now) place) }
+    pub(crate) fn is_deleted(&self, position: usize) -> bool
+        ensures { result ≡ is_deleted_piece (slice_get (pieces self.now) position) }
     {
-        match self.kind(place) {
+        match self.kind(position) {
             Some(Kind::Kept) => false,
             Some(Kind::Updated) => false,
             Some(Kind::Deleted) => true,
@@ -184,10 +185,15 @@ impl Pieces {
     }
 
     /// Puts a changed piece at a place. It takes memory where there is no room for one more.
-    pub(crate) fn put(&mut self, place: usize, change: Changed) -> Result<(), (Changed, AllocError)>
-        requires within { place ≤ length (pieces self.old) }
+    pub(crate) fn put(
+        &mut self,
+        position: usize,
+        change: Changed,
+    ) -> Result<(), (Changed, AllocError)>
+        requires within { position ≤ length (pieces self.old) }
         requires few { length (pieces self.old) + 1 ≤ 2 * MOST }
-        ensures ok { OnOk result (pieces self.new ≡ insert (pieces self.old) place (piece_of change)) }
+        ensures ok { OnOk result
+            (pieces self.new ≡ insert (pieces self.old) position (piece_of change)) }
         ensures err { OnErr result (pieces self.new ≡ pieces self.old) }
         ensures back { IfErr result (λ e. e.0 ≡ change) }
         ensures full { OnErr result (room self.old ≤ changed_len (pieces self.old)) }
@@ -196,21 +202,21 @@ impl Pieces {
         if self.reserve(1).is_err() {
             return Err((change, AllocError));
         }
-        self.put_back(place, change);
+        self.put_back(position, change);
         Ok(())
     }
 
     /// Puts a changed piece at a place, in room that there is. It takes no memory.
-    pub(crate) fn put_back(&mut self, place: usize, change: Changed)
-        requires within { place ≤ length (pieces self.old) }
+    pub(crate) fn put_back(&mut self, position: usize, change: Changed)
+        requires within { position ≤ length (pieces self.old) }
         requires few { length (pieces self.old) + 1 ≤ 2 * MOST }
         requires spare { changed_len (pieces self.old) < room self.old }
-        ensures pieces { pieces self.new ≡ insert (pieces self.old) place (piece_of change) }
+        ensures pieces { pieces self.new ≡ insert (pieces self.old) position (piece_of change) }
         ensures room { room self.old ≤ room self.new }
     {
-        let old = self.colours.rank(place, WITH_OLD);
-        let new = self.colours.rank(place, WITH_NEW);
-        self.colours.insert_reserved(place, change.colour(), 1);
+        let old = self.colours.rank(position, WITH_OLD);
+        let new = self.colours.rank(position, WITH_NEW);
+        self.colours.insert_reserved(position, change.colour(), 1);
         put_values(&mut self.olds, &mut self.news, old, new, change);
     }
 
@@ -238,37 +244,38 @@ impl Pieces {
     }
 
     /// Takes out a kept piece.
-    pub(crate) fn drop_kept(&mut self, place: usize)
-        requires { slice_get (pieces self.old) place ≡ Some kept }
-        ensures rest { pieces self.new ≡ remove (pieces self.old) place }
+    pub(crate) fn drop_kept(&mut self, position: usize)
+        requires { slice_get (pieces self.old) position ≡ Some kept }
+        ensures rest { pieces self.new ≡ remove (pieces self.old) position }
         ensures room { room self.new ≡ room self.old }
     {
-        self.colours.remove(place, 1);
+        self.colours.remove(position, 1);
     }
 
     /// Takes out a changed piece. There is room for it afterwards.
-    pub(crate) fn take(&mut self, place: usize) -> Changed
-        requires within { place < length (pieces self.old) }
-        requires changed { is_kept_piece (slice_get (pieces self.old) place) ≡ false }
-        ensures taken { slice_get (pieces self.old) place ≡ Some (piece_of result) }
-        ensures rest { pieces self.new ≡ remove (pieces self.old) place }
+    pub(crate) fn take(&mut self, position: usize) -> Changed
+        requires within { position < length (pieces self.old) }
+        requires changed { is_kept_piece (slice_get (pieces self.old) position) ≡ false }
+        ensures taken { slice_get (pieces self.old) position ≡ Some (piece_of result) }
+        ensures rest { pieces self.new ≡ remove (pieces self.old) position }
         ensures room { room self.new ≡ room self.old }
         ensures spare { changed_len (pieces self.new) < room self.new }
     {
-        let kind = Kind::of_colour(self.colours.colour(place));
-        let old = self.colours.rank(place, WITH_OLD);
-        let new = self.colours.rank(place, WITH_NEW);
-        self.colours.remove(place, 1);
+        let kind = Kind::of_colour(self.colours.colour(position));
+        let old = self.colours.rank(position, WITH_OLD);
+        let new = self.colours.rank(position, WITH_NEW);
+        self.colours.remove(position, 1);
         take_values(&mut self.olds, &mut self.news, old, new, kind)
     }
 
-    /// Moves the deletions up to `end` in front of the insertions before them, which begin at `to`. No value moves, since
+    /// Moves the deletions up to `end` before the insertions before them, which begin at `to`. No value moves, since
     /// deletions tell old values alone and insertions new ones alone. It takes no memory.
     pub(crate) fn move_deleted(&mut self, to: usize, from: usize, end: usize)
-        requires behind { AreBehind (pieces self.old) to from end }
+        requires later { AreAfter (pieces self.old) to from end }
         requires some { to < from }
         requires few { length (pieces self.old) ≤ 2 * MOST }
-        ensures pieces { (b : AreBehind (pieces self.old) to from end) → pieces self.new ≡ brought_forward b }
+        ensures pieces { (b : AreAfter (pieces self.old) to from end)
+            → pieces self.new ≡ brought_forward b }
         ensures room { room self.new ≡ room self.old }
     {
         let deleted = end - from;
@@ -284,11 +291,11 @@ impl Pieces {
     }
 
     /// What became of an element of the old list.
-    pub(crate) fn old_at(&self, place: usize) -> Old<'_>
-        requires within { place < old_len (pieces self.now) }
-        ensures { IsOldAt (olds 0 (pieces self.now)) place result }
+    pub(crate) fn old_at(&self, position: usize) -> Old<'_>
+        requires within { position < old_len (pieces self.now) }
+        ensures { IsOldAt (olds 0 (pieces self.now)) position result }
     {
-        let found = self.select(Side::Old, place);
+        let found = self.select(Side::Old, position);
         if self.colours.colour(found) == KEPT {
             return Old::Kept(self.colours.rank(found, Side::New.mask()));
         }
@@ -311,7 +318,8 @@ impl Pieces {
     // The pieces of a cell at the end, with values that share what the cell's hold.
     fn append_copy(&mut self, cell: CellRef<'_>) -> Result<(), AllocError>
         requires { length (pieces self.old) + length (pieces_in (cell_ref cell)) ≤ 2 * MOST }
-        ensures { OnOk result (pieces self.new ≡ pieces self.old ++ pieces_in (cell_ref cell.entry)) }
+        ensures { OnOk result
+            (pieces self.new ≡ pieces self.old ++ pieces_in (cell_ref cell.entry)) }
     {
         let change = match cell {
             CellRef::Keep(n) => return self.keep(n),
@@ -326,9 +334,9 @@ impl Pieces {
     }
 
     /// The pieces turned round, in normal form. It takes no memory.
-    pub(crate) fn turned(self) -> Pieces
+    pub(crate) fn inverted(self) -> Pieces
         requires { IsNormal (pieces self) }
-        ensures pieces { pieces result ≡ normal (map turned (pieces self)) }
+        ensures pieces { pieces result ≡ normal (map inverted (pieces self)) }
         ensures room { room result ≡ room self }
     {
         let Pieces {
@@ -368,14 +376,15 @@ impl Pieces {
     }
 
     /// The cell of a changed piece.
-    pub(crate) fn cell(&self, place: usize) -> CellRef<'_>
-        requires within { place < length (pieces self.now) }
-        requires changed { is_kept_piece (slice_get (pieces self.now) place) ≡ false }
-        ensures { (x : Piece) → slice_get (pieces self.now) place ≡ Some x → cells_of (x ∷ []) ≡ cell_ref result ∷ [] }
+    pub(crate) fn cell(&self, position: usize) -> CellRef<'_>
+        requires within { position < length (pieces self.now) }
+        requires changed { is_kept_piece (slice_get (pieces self.now) position) ≡ false }
+        ensures { (x : Piece) → slice_get (pieces self.now) position ≡ Some x
+            → cells_of (x ∷ []) ≡ cell_ref result ∷ [] }
     {
-        let old = self.colours.rank(place, WITH_OLD);
-        let new = self.colours.rank(place, WITH_NEW);
-        match Kind::of_colour(self.colours.colour(place)) {
+        let old = self.colours.rank(position, WITH_OLD);
+        let new = self.colours.rank(position, WITH_NEW);
+        match Kind::of_colour(self.colours.colour(position)) {
             Kind::Kept => unreachable!(),
             Kind::Updated => CellRef::Update(self.olds.at(old), self.news.at(new)),
             Kind::Deleted => CellRef::Delete(self.olds.at(old)),
@@ -390,19 +399,19 @@ impl Pieces {
         self.colours.len()
     }
 
-    /// The cells behind so many changes.
+    /// The cells after so many changes.
     pub(crate) fn cells_from(&self, changes: usize) -> Cells<'_>
         requires { changes ≤ changed_len (pieces self.now) }
         ensures { cells_rest result ≡ cells_of (after_changes changes (pieces self.now)) }
     {
         Cells {
             store: self,
-            at: self.behind(changes),
+            at: self.later(changes),
         }
     }
 
-    // The place behind so many changed pieces.
-    fn behind(&self, changes: usize) -> usize
+    // The place after so many changed pieces.
+    fn later(&self, changes: usize) -> usize
         requires { changes ≤ changed_len (pieces self.now) }
         ensures within { result ≤ length (pieces self.now) }
         ensures rest { drop result (pieces self.now) ≡ after_changes changes (pieces self.now) }

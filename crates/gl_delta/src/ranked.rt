@@ -50,37 +50,37 @@ impl Ranked {
     }
 
     /// Puts a value in at a place, in room that there is. It takes no memory.
-    pub(crate) fn insert(&mut self, place: usize, value: Value)
-        requires in_range { place ≤ length self.old.values }
+    pub(crate) fn insert(&mut self, position: usize, value: Value)
+        requires in_range { position ≤ length self.old.values }
         requires few { length self.old.values + 1 < 2 ^ 32 - 1 }
         requires spare { length self.old.values < self.old.room }
-        ensures values { self.new.values ≡ insert self.old.values place value }
+        ensures values { self.new.values ≡ insert self.old.values position value }
         ensures room { self.new.room ≡ self.old.room }
     {
-        self.list.insert_reserved(place, value);
+        self.list.insert_reserved(position, value);
     }
 
     /// Takes the value at a place out. There is room for it afterwards.
-    pub(crate) fn take(&mut self, place: usize) -> Value
-        requires { place < length self.old.values }
-        ensures taken { slice_get self.old.values place ≡ Some result }
-        ensures rest { self.new.values ≡ remove self.old.values place }
+    pub(crate) fn take(&mut self, position: usize) -> Value
+        requires { position < length self.old.values }
+        ensures taken { slice_get self.old.values position ≡ Some result }
+        ensures rest { self.new.values ≡ remove self.old.values position }
         ensures room { self.new.room ≡ self.old.room }
     {
         let _distinct = self.list.len();
-        match self.list.at(place) {
+        match self.list.at(position) {
             Some(handle) => self.list.take(handle),
             None => unreachable!(),
         }
     }
 
     /// The value at a place.
-    pub(crate) fn at(&self, place: usize) -> &Value
-        requires { place < length self.now.values }
-        ensures { slice_get self.now.values place ≡ Some result.now }
+    pub(crate) fn at(&self, position: usize) -> &Value
+        requires { position < length self.now.values }
+        ensures { slice_get self.now.values position ≡ Some result.now }
     {
         let _distinct = self.list.len();
-        match self.list.at(place) {
+        match self.list.at(position) {
             Some(handle) => self.list.item(handle),
             None => unreachable!(),
         }

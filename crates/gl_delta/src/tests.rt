@@ -116,27 +116,30 @@ fn record(rt: &impl Abort, delta: &mut Delta, step: Step) -> Result<(), AllocErr
     }
 }
 
+/// How long the identity is, the steps that are recorded in it, and the rows that it then has.
+const RECORDED: [(usize, &[Step], &[Row]); 5] = [
+    (
+        2,
+        &[Step::Remove(0, 7), Step::Insert(0, 8)],
+        &[Row::Delete(7), Row::Insert(8), Row::Keep(1)],
+    ),
+    (2, &[Step::Set(1, 5, 6)], &[Row::Keep(1), Row::Update(5, 6)]),
+    (
+        1,
+        &[Step::Set(0, 1, 2), Step::Set(0, 2, 3)],
+        &[Row::Update(1, 3)],
+    ),
+    (
+        1,
+        &[Step::Set(0, 3, 4), Step::Remove(0, 4)],
+        &[Row::Delete(3)],
+    ),
+    (0, &[Step::Insert(0, 5), Step::Remove(0, 5)], &[]),
+];
+
 #[test]
 fn recorded_changes(rt: HostRuntime) -> Result<(), Fail> {
-    for (len, steps, rows) in [
-        (
-            2,
-            [Step::Remove(0, 7), Step::Insert(0, 8)].as_slice(),
-            [Row::Delete(7), Row::Insert(8), Row::Keep(1)].as_slice(),
-        ),
-        (2, &[Step::Set(1, 5, 6)], &[Row::Keep(1), Row::Update(5, 6)]),
-        (
-            1,
-            &[Step::Set(0, 1, 2), Step::Set(0, 2, 3)],
-            &[Row::Update(1, 3)],
-        ),
-        (
-            1,
-            &[Step::Set(0, 3, 4), Step::Remove(0, 4)],
-            &[Row::Delete(3)],
-        ),
-        (0, &[Step::Insert(0, 5), Step::Remove(0, 5)], &[]),
-    ] {
+    for (len, steps, rows) in RECORDED {
         assert!(rt; len <= MOST);
         let mut delta = Delta::identity(rt.alloc(), len)?;
         for step in steps {
@@ -172,7 +175,7 @@ fn pushed_cells(rt: HostRuntime) -> Result<(), Fail> {
     Ok(())
 }
 
-// Many deletions, each told behind all insertions so far: the work is no multiple of their number.
+// Many deletions, each told after all insertions so far: the work is no multiple of their number.
 #[test]
 fn many_pushed(rt: HostRuntime) -> Result<(), Fail> {
     let mut delta = Delta::start(rt.alloc());
@@ -195,7 +198,7 @@ fn many_pushed(rt: HostRuntime) -> Result<(), Fail> {
     Ok(())
 }
 
-// Many elements removed behind as many that were inserted.
+// Many elements removed after as many that were inserted.
 #[test]
 fn many_removed(rt: HostRuntime) -> Result<(), Fail> {
     let mut delta = Delta::identity(rt.alloc(), 15_000)?;
@@ -221,89 +224,95 @@ fn many_removed(rt: HostRuntime) -> Result<(), Fail> {
 }
 
 // An updated pair is turned round too, and between two pairs the deletions stand first again.
+/// A delta, and its inverse.
+const INVERSES: [(&[Row], &[Row]); 3] = [
+    (
+        &[Row::Delete(7), Row::Insert(8), Row::Keep(1)],
+        &[Row::Delete(8), Row::Insert(7), Row::Keep(1)],
+    ),
+    (
+        &[
+            Row::Update(5, 6),
+            Row::Delete(1),
+            Row::Delete(2),
+            Row::Insert(3),
+            Row::Keep(2),
+            Row::Insert(4),
+        ],
+        &[
+            Row::Update(6, 5),
+            Row::Delete(3),
+            Row::Insert(1),
+            Row::Insert(2),
+            Row::Keep(2),
+            Row::Delete(4),
+        ],
+    ),
+    (&[], &[]),
+];
+
 #[test]
 fn inverses(rt: HostRuntime) -> Result<(), Fail> {
-    for (rows, back) in [
-        (
-            [Row::Delete(7), Row::Insert(8), Row::Keep(1)].as_slice(),
-            [Row::Delete(8), Row::Insert(7), Row::Keep(1)].as_slice(),
-        ),
-        (
-            &[
-                Row::Update(5, 6),
-                Row::Delete(1),
-                Row::Delete(2),
-                Row::Insert(3),
-                Row::Keep(2),
-                Row::Insert(4),
-            ],
-            &[
-                Row::Update(6, 5),
-                Row::Delete(3),
-                Row::Insert(1),
-                Row::Insert(2),
-                Row::Keep(2),
-                Row::Delete(4),
-            ],
-        ),
-        (&[], &[]),
-    ] {
+    for (rows, back) in INVERSES {
         assert!(rt; has(&built(&rt, rt.alloc(), rows)?.inverse(), back));
     }
     Ok(())
 }
 
+/// Two deltas, the composition of them, and whether that is the identity.
+const COMPOSED: [(&[Row], &[Row], &[Row], bool); 4] = [
+    // there and back: the first element was deleted, whatever stands there now
+    (
+        &[Row::Delete(7), Row::Insert(8), Row::Keep(1)],
+        &[Row::Delete(8), Row::Insert(7), Row::Keep(1)],
+        &[Row::Delete(7), Row::Insert(7), Row::Keep(1)],
+        false,
+    ),
+    // an updated pair stays one where the values meet again
+    (
+        &[Row::Update(1, 2), Row::Keep(1)],
+        &[Row::Update(2, 1), Row::Keep(1)],
+        &[Row::Update(1, 1), Row::Keep(1)],
+        false,
+    ),
+    (
+        &[Row::Insert(5), Row::Keep(1)],
+        &[Row::Delete(5), Row::Keep(1)],
+        &[Row::Keep(1)],
+        true,
+    ),
+    (
+        &[
+            Row::Keep(1),
+            Row::Insert(5),
+            Row::Update(3, 4),
+            Row::Delete(6),
+            Row::Keep(2),
+        ],
+        &[
+            Row::Delete(1),
+            Row::Update(5, 8),
+            Row::Insert(2),
+            Row::Delete(4),
+            Row::Keep(1),
+            Row::Update(9, 0),
+        ],
+        &[
+            Row::Delete(1),
+            Row::Delete(3),
+            Row::Delete(6),
+            Row::Insert(8),
+            Row::Insert(2),
+            Row::Keep(1),
+            Row::Update(9, 0),
+        ],
+        false,
+    ),
+];
+
 #[test]
 fn compositions(rt: HostRuntime) -> Result<(), Fail> {
-    for (first, next, rows, identity) in [
-        // there and back: the first element was deleted, whatever stands there now
-        (
-            [Row::Delete(7), Row::Insert(8), Row::Keep(1)].as_slice(),
-            [Row::Delete(8), Row::Insert(7), Row::Keep(1)].as_slice(),
-            [Row::Delete(7), Row::Insert(7), Row::Keep(1)].as_slice(),
-            false,
-        ),
-        // an updated pair stays one where the values meet again
-        (
-            &[Row::Update(1, 2), Row::Keep(1)],
-            &[Row::Update(2, 1), Row::Keep(1)],
-            &[Row::Update(1, 1), Row::Keep(1)],
-            false,
-        ),
-        (
-            &[Row::Insert(5), Row::Keep(1)],
-            &[Row::Delete(5), Row::Keep(1)],
-            &[Row::Keep(1)],
-            true,
-        ),
-        (
-            &[
-                Row::Keep(1),
-                Row::Insert(5),
-                Row::Update(3, 4),
-                Row::Delete(6),
-                Row::Keep(2),
-            ],
-            &[
-                Row::Delete(1),
-                Row::Update(5, 8),
-                Row::Insert(2),
-                Row::Delete(4),
-                Row::Keep(1),
-                Row::Update(9, 0),
-            ],
-            &[
-                Row::Delete(1),
-                Row::Delete(3),
-                Row::Delete(6),
-                Row::Insert(8),
-                Row::Insert(2),
-                Row::Keep(1),
-                Row::Update(9, 0),
-            ],
-            false,
-        ),
-    ] {
+    for (first, next, rows, identity) in COMPOSED {
         let mut delta = built(&rt, rt.alloc(), first)?;
         let more = built(&rt, rt.alloc(), next)?;
         assert!(rt; more.old_len() == delta.new_len());
@@ -327,8 +336,8 @@ fn numbers(alloc: Global, items: &[i64]) -> Result<Values, AllocError> {
 }
 
 fn shows(shelf: &impl Shelf, items: &[i64]) -> bool {
-    for (place, n) in items.iter().enumerate() {
-        match shelf.get(place) {
+    for (position, n) in items.iter().enumerate() {
+        match shelf.get(position) {
             Some(v) => {
                 if !is_number(v, *n) {
                     return false;

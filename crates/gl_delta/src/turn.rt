@@ -2,7 +2,7 @@
 
 ghost use Rattle.std.specs.Prelude.{◌≡◌, ◌<◌, ◌≤◌, ◌*◌, ◌-◌, ◌++◌, ℕ, List, length};
 ghost use Rattle.gl_fourcolour.specs.Colours.{count_among};
-ghost use Rattle.gl_delta.specs.Turns.{turned_colours, InOrder, Reached, Turning};
+ghost use Rattle.gl_delta.specs.DependencyOrder.{inverse_colours, InOrder, Reached, Turning};
 
 use crate::mark::DELETED;
 use gl_fourcolour::Runs;
@@ -20,7 +20,7 @@ const PAIRED: u8 = 0b0011;
 pub(crate) fn turn(colours: &mut Runs<4>)
     requires ordered { InOrder colours.old.colours }
     requires room { 2 * count_among 14 colours.old.colours ≤ colours.old.room - 1 }
-    ensures colours { colours.new.colours ≡ turned_colours colours.old.colours }
+    ensures colours { colours.new.colours ≡ inverse_colours colours.old.colours }
     ensures room { colours.new.room ≡ colours.old.room }
 {
     let mut at = 0;
@@ -29,11 +29,12 @@ pub(crate) fn turn(colours: &mut Runs<4>)
     }
 }
 
-// Turns the first gap from a place on, and answers the place behind it.
+// Turns the first gap from a place on, and answers the place after it.
 fn turn_gap(colours: &mut Runs<4>, at: usize) -> usize
     requires turning { (start : List ℕ) × Turning start colours.old at }
     requires more { at < length colours.old.colours }
-    ensures turning { (start : List ℕ) → Turning start colours.old at → Turning start colours.new result }
+    ensures turning { (start : List ℕ) → Turning start colours.old at
+        → Turning start colours.new result }
     ensures goes { at < result }
     ensures within { result ≤ length colours.new.colours }
     ensures len { length colours.new.colours ≡ length colours.old.colours }
@@ -59,10 +60,11 @@ fn turn_gap(colours: &mut Runs<4>, at: usize) -> usize
 fn next(colours: &Runs<4>, from: usize, set: u8) -> usize
     requires { from ≤ length colours.now.colours }
     ensures within { result ≤ length colours.now.colours }
-    ensures reached { (front rest : List ℕ) → colours.now.colours ≡ front ++ rest → from ≡ length front → Reached set front rest result }
+    ensures reached { (prefix rest : List ℕ) → colours.now.colours ≡ prefix ++ rest
+        → from ≡ length prefix → Reached set prefix rest result }
 {
     match colours.select(colours.rank(from, set), set) {
-        Some(place) => place,
+        Some(position) => position,
         None => colours.len(),
     }
 }

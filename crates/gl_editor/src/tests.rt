@@ -33,7 +33,7 @@ fn kinds_of_changes(rt: HostRuntime) -> Result<(), Fail> {
     let one = above(alloc, 1);
     let two = above(alloc, 2);
     let pair = both(alloc, 1, 2)?;
-    let turned = both(alloc, 2, 1)?;
+    let reversed = both(alloc, 2, 1)?;
     let all = Matcher::all();
     let nothing = Matcher::nothing();
     let table = [
@@ -42,7 +42,7 @@ fn kinds_of_changes(rt: HostRuntime) -> Result<(), Fail> {
         (&one, &nothing, EditKind::Nothing),
         (&all, &nothing, EditKind::Nothing),
         (&one, &pair, EditKind::Constrained),
-        (&pair, &turned, EditKind::Constrained),
+        (&pair, &reversed, EditKind::Constrained),
         (&all, &one, EditKind::Constrained),
         (&one, &one, EditKind::Constrained),
         (&nothing, &two, EditKind::Relaxed),

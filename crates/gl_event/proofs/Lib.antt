@@ -1,2 +1,2 @@
-pub mod CellLemmas
-mod BlockLemmas
+pub mod Cells
+mod Blocks

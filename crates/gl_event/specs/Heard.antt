@@ -11,7 +11,8 @@ pub record Heard : Type 0 where
 
 abbrev pub heard_code : Coded Heard
 heard_code =
-    code_by (List Piece × ℕ) (coded× (coded_list piece_code) coded_ℕ) (λ t. (t.pieces, t.given)) (λ p. record { pieces = p.0; given = p.1 }) (λ _. refl)
+    code_by (List Piece × ℕ) (coded× (coded_list piece_code) coded_ℕ) (λ t. (t.pieces, t.given))
+    (λ p. record { pieces = p.0; given = p.1 }) (λ _. refl)
 
 -- so many changes were given, and so many elements stand to the left of what is left
 pub record IsAt (ps : List Piece) (given at : ℕ) : Type 0 where

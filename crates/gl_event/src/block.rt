@@ -12,7 +12,7 @@ pub enum ChangeKind {
 }
 
 /// Changes of one kind that follow each other: so many of them, from an index on. Deletions all have that index,
-/// since what is behind them moves up; each insertion or update has the index behind the one before. Glazed Lists
+/// since what is after them moves up; each insertion or update has the index after the one before. Glazed Lists
 /// tells its list events in such blocks.
 #[derive(Clone, Copy)]
 pub struct Block {

@@ -53,7 +53,9 @@ impl Change<'_> {
 
     // Whether it is of a kind and at an index.
     pub(crate) fn goes_on(&self, kind: ChangeKind, at: usize) -> bool
-        ensures { result ≡ (is_kind (kind_of (change_ref self.now)) kind && (index_of (change_ref self.now) == at)) }
+        ensures { result
+            ≡ (is_kind (kind_of (change_ref self.now)) kind
+            && (index_of (change_ref self.now) == at)) }
     {
         self.kind().is(kind) && self.index() == at
     }

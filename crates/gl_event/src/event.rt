@@ -83,7 +83,8 @@ impl Event {
 
     /// The next change; `None` exactly after the last. It takes no memory.
     pub fn next(&mut self) -> Option<Change<'_>>
-        ensures gives { option_map change_ref result ≡ slice_get (changes self.old.pieces) self.old.given }
+        ensures gives { option_map change_ref result
+            ≡ slice_get (changes self.old.pieces) self.old.given }
         ensures* after { sem 𝓛 (follows_so the_row the_row self.entry.ghost_name none (λ _ _. ⊤)
             (λ n. n ≡ further self.old)) }
     {
@@ -95,7 +96,7 @@ impl Event {
         Some(change)
     }
 
-    /// The next block: the next change, and those behind it of the same kind that go on from it. `None` exactly after
+    /// The next block: the next change, and those after it of the same kind that go on from it. `None` exactly after
     /// the last change. It takes no memory, and a step for each change of the block.
     pub fn next_block(&mut self) -> Option<Block>
         ensures gives { result ≡ first_block (drop self.old.given (changes self.old.pieces)) }
@@ -131,7 +132,7 @@ impl Event {
     }
 }
 
-// The changes behind so many, to the left of which so many elements stand.
+// The changes after so many, to the left of which so many elements stand.
 fn rest(delta: &Delta, given: usize, at: usize) -> Walk<'_>
     requires { IsAt delta.now.pieces given at }
     ensures changes { changes_rest result ≡ drop given (changes delta.now.pieces) }

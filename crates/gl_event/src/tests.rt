@@ -48,7 +48,8 @@ fn is_told(change: Change<'_>, told: Told) -> bool {
 fn push(rt: &impl Abort, delta: &mut Delta, cell: Cell) -> Result<(), AllocError>
     requires olds { old_len (pieces_in (cell_of cell)) ≤ 1 }
     requires news { new_len (pieces_in (cell_of cell)) ≤ 1 }
-    ensures { OnOk result (delta.new.pieces ≡ normal (delta.old.pieces ++ pieces_in (cell_of cell))) }
+    ensures { OnOk result
+        (delta.new.pieces ≡ normal (delta.old.pieces ++ pieces_in (cell_of cell))) }
 {
     assert!(rt; delta.old_len() < 100 && delta.new_len() < 100);
     match delta.push(cell) {
@@ -131,62 +132,65 @@ fn gives_blocks(event: &mut Event, blocks: &[(Told, usize, usize)]) -> bool {
     event.next_block().is_none()
 }
 
+/// A delta, its changes, and the blocks of them: a change of the block's kind, its start and its length.
+const EVENTS: [(&[Row], &[Told], &[(Told, usize, usize)]); 4] = [
+    (
+        &[Row::Delete(4), Row::Delete(5), Row::Insert(1)],
+        &[Told::Delete(0, 4), Told::Delete(0, 5), Told::Insert(0, 1)],
+        &[(Told::Delete(0, 4), 0, 2), (Told::Insert(0, 1), 0, 1)],
+    ),
+    // deletions with different indices, and insertions apart, are blocks of their own
+    (
+        &[
+            Row::Delete(4),
+            Row::Keep(1),
+            Row::Delete(5),
+            Row::Insert(1),
+            Row::Keep(2),
+            Row::Insert(2),
+        ],
+        &[
+            Told::Delete(0, 4),
+            Told::Delete(1, 5),
+            Told::Insert(1, 1),
+            Told::Insert(4, 2),
+        ],
+        &[
+            (Told::Delete(0, 4), 0, 1),
+            (Told::Delete(1, 5), 1, 1),
+            (Told::Insert(1, 1), 1, 1),
+            (Told::Insert(4, 2), 4, 1),
+        ],
+    ),
+    (
+        &[
+            Row::Keep(1),
+            Row::Insert(7),
+            Row::Insert(8),
+            Row::Keep(2),
+            Row::Update(1, 2),
+            Row::Update(3, 4),
+            Row::Delete(9),
+        ],
+        &[
+            Told::Insert(1, 7),
+            Told::Insert(2, 8),
+            Told::Update(5, 1, 2),
+            Told::Update(6, 3, 4),
+            Told::Delete(7, 9),
+        ],
+        &[
+            (Told::Insert(1, 7), 1, 2),
+            (Told::Update(5, 1, 2), 5, 2),
+            (Told::Delete(7, 9), 7, 1),
+        ],
+    ),
+    (&[Row::Keep(3)], &[], &[]),
+];
+
 #[test]
 fn changes_and_blocks(rt: HostRuntime) -> Result<(), Fail> {
-    for (rows, changes, blocks) in [
-        (
-            [Row::Delete(4), Row::Delete(5), Row::Insert(1)].as_slice(),
-            [Told::Delete(0, 4), Told::Delete(0, 5), Told::Insert(0, 1)].as_slice(),
-            [(Told::Delete(0, 4), 0, 2), (Told::Insert(0, 1), 0, 1)].as_slice(),
-        ),
-        // deletions with different indices, and insertions apart, are blocks of their own
-        (
-            &[
-                Row::Delete(4),
-                Row::Keep(1),
-                Row::Delete(5),
-                Row::Insert(1),
-                Row::Keep(2),
-                Row::Insert(2),
-            ],
-            &[
-                Told::Delete(0, 4),
-                Told::Delete(1, 5),
-                Told::Insert(1, 1),
-                Told::Insert(4, 2),
-            ],
-            &[
-                (Told::Delete(0, 4), 0, 1),
-                (Told::Delete(1, 5), 1, 1),
-                (Told::Insert(1, 1), 1, 1),
-                (Told::Insert(4, 2), 4, 1),
-            ],
-        ),
-        (
-            &[
-                Row::Keep(1),
-                Row::Insert(7),
-                Row::Insert(8),
-                Row::Keep(2),
-                Row::Update(1, 2),
-                Row::Update(3, 4),
-                Row::Delete(9),
-            ],
-            &[
-                Told::Insert(1, 7),
-                Told::Insert(2, 8),
-                Told::Update(5, 1, 2),
-                Told::Update(6, 3, 4),
-                Told::Delete(7, 9),
-            ],
-            &[
-                (Told::Insert(1, 7), 1, 2),
-                (Told::Update(5, 1, 2), 5, 2),
-                (Told::Delete(7, 9), 7, 1),
-            ],
-        ),
-        (&[Row::Keep(3)], &[], &[]),
-    ] {
+    for (rows, changes, blocks) in EVENTS {
         let mut event = event(&rt, rt.alloc(), rows)?;
         assert!(rt; walks(&event, changes));
         assert!(rt; gives_blocks(&mut event, blocks));

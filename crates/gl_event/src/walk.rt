@@ -2,7 +2,7 @@
 
 ghost use Rattle.std.specs.Prelude.{◌≡◌, ◌+◌, ◌<◌, ◌≤◌, length, IfSome};
 ghost use Rattle.std.specs.Iterator.{YieldsFirstBy, item_count};
-ghost use Rattle.gl_event.specs.Blocks.{behind, run, run_end};
+ghost use Rattle.gl_event.specs.Blocks.{index_after, run, run_end};
 ghost use Rattle.gl_event.specs.Changes.{change_ref, changes_rest, IsFew};
 
 use crate::block::ChangeKind;
@@ -18,11 +18,11 @@ pub struct Walk<'a> {
 }
 
 impl<'a> Walk<'a> {
-    // The next change, and how many elements stand to the left of what is behind it.
+    // The next change, and how many elements stand to the left of what is after it.
     pub(crate) fn step(&mut self) -> Option<Change<'a>>
         requires { IsFew self.old }
         ensures gives { YieldsFirstBy change_ref changes_rest self.old result self.new }
-        ensures behind { IfSome result (λ c. self.new.at ≡ behind (change_ref c)) }
+        ensures index_after { IfSome result (λ c. self.new.at ≡ index_after (change_ref c)) }
         ensures few { IsFew self.new }
     {
         while let Some(cell) = self.cells.next() {
@@ -43,8 +43,8 @@ impl<'a> Walk<'a> {
         None
     }
 
-    // How many of the changes go on: of a kind, and each at the index right behind the one before. Beside that number
-    // the index right behind the last of them.
+    // How many of the changes go on: of a kind, and each at the index right after the one before. Beside that number
+    // the index right after the last of them.
     pub(crate) fn run(mut self, kind: ChangeKind) -> (usize, usize)
         requires few { IsFew self }
         requires fits { length (changes_rest self) ≤ 4294967294 }

@@ -1,7 +1,7 @@
-pub mod Telling
-pub mod Showing
-pub mod Marking
-pub mod Changing
-pub mod Skipping
-pub mod Passing
+pub mod Tellings
+pub mod Shown
+pub mod ShownMarks
+pub mod Changes
+pub mod Skips
+pub mod Passes
 pub mod Cases

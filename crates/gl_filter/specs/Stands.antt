@@ -1,7 +1,7 @@
 -- What a filter stands for, and what its undos give back.
 use Rattle.std.specs.Prelude.{Bool, List, unwrap_or}
-use Rattle.spec_value.specs.Tree.{Tree}
-use Rattle.spec_lang.specs.Matcher.{Matcher, accepts}
+use Rattle.spec_views.specs.Tree.{Tree}
+use Rattle.spec_views.specs.Matcher.{Matcher, accepts}
 use Rattle.gl_barcode.specs.Bars.{stretch_count}
 use Rattle.gl_kernel.specs.Edits.{played, CanPlay}
 use Rattle.gl_kernel.specs.Results.{AreResults, LeadsBack}
@@ -22,7 +22,8 @@ contents k = record { matcher = k.matcher; shown = k.shown }
 
 -- what an undo makes of a filter
 abbrev pub before : FilterUndo → Kept → Contents
-before undo k = record { matcher = unwrap_or undo.matcher k.matcher; shown = played undo.log.items k.shown }
+before undo k =
+    record { matcher = unwrap_or undo.matcher k.matcher; shown = played undo.log.items k.shown }
 
 -- the filter has the room that the way back needs
 abbrev pub CanRetreat : FilterUndo → Kept → Type 0

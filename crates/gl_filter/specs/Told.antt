@@ -1,9 +1,9 @@
 -- What is told by the marks that a filter keeps, and how often it asks its matcher.
 use Rattle.std.specs.Prelude.{◌≡◌, ℕ, suc, ◌+◌, ◌-◌, ◌<◌, ◌≤◌, Bool, true, false, cond, List, [], ◌∷◌, length, take, drop, Option, Some, None}
-use Rattle.spec_value.specs.Tree.{Tree}
-use Rattle.spec_lists.specs.Piece.{Piece, kept, updated, deleted, inserted}
-use Rattle.spec_lang.specs.declared.EditKind.{EditKind}
-use Rattle.spec_lang.specs.declared.EditKind.TheVariants as kind_is
+use Rattle.spec_views.specs.Tree.{Tree}
+use Rattle.spec_views.specs.Piece.{Piece, kept, updated, deleted, inserted}
+use Rattle.spec_views.specs.EditKind.{EditKind}
+use Rattle.spec_views.specs.EditKind.TheVariants as kind_is
 use Rattle.gl_barcode.specs.Bars.{count_shown}
 use Rattle.gl_kernel.specs.Fates.{Fate, stays, becomes, goes, comes}
 use Rattle.spec_views.specs.Chosen.{told_of_pair, told_of_old, told_of_new}
@@ -18,7 +18,8 @@ told_marks accepts bs [] = []
 told_marks accepts [] (kept ∷ ps) = []
 told_marks accepts (b ∷ bs) (kept ∷ ps) = told_kept b (told_marks accepts bs ps)
 told_marks accepts [] (updated v w ∷ ps) = []
-told_marks accepts (b ∷ bs) (updated v w ∷ ps) = told_of_pair b (accepts w) (updated v w) v w (told_marks accepts bs ps)
+told_marks accepts (b ∷ bs) (updated v w ∷ ps) =
+    told_of_pair b (accepts w) (updated v w) v w (told_marks accepts bs ps)
 told_marks accepts [] (deleted v ∷ ps) = []
 told_marks accepts (b ∷ bs) (deleted v ∷ ps) = told_of_old b v (told_marks accepts bs ps)
 told_marks accepts bs (inserted w ∷ ps) = told_of_new (accepts w) w (told_marks accepts bs ps)
@@ -52,7 +53,8 @@ asked (inserted w ∷ ps) = suc (asked ps)
 -- what is told of elements that stay, under another matcher
 abbrev pub told_change : (Tree → Bool) → (Tree → Bool) → List Tree → List Piece
 told_change before after [] = []
-told_change before after (x ∷ xs) = told_of_pair (before x) (after x) kept x x (told_change before after xs)
+told_change before after (x ∷ xs) =
+    told_of_pair (before x) (after x) kept x x (told_change before after xs)
 
 -- what becomes of the marks under another matcher
 abbrev pub switches : (Tree → Bool) → (Tree → Bool) → List Tree → List (Fate Bool)
@@ -106,8 +108,8 @@ shown_among (Some true) n = n
 shown_among (Some false) n = 0
 shown_among None n = 0
 
--- behind this place the next one without this mark
-pub record IsNext (mark : Option Bool) (bs : List Bool) (place at : ℕ) : Type 0 where
-  pub from : place ≤ at
+-- after this place the next one without this mark
+pub record IsNext (mark : Option Bool) (bs : List Bool) (position at : ℕ) : Type 0 where
+  pub from : position ≤ at
   pub within : at < length bs
-  pub between : AreAll mark (take (at - place) (drop place bs))
+  pub between : AreAll mark (take (at - position) (drop position bs))

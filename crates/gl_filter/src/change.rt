@@ -1,9 +1,9 @@
 //! What a filter tells when it gets another matcher, and the steps that change its marks.
 
 ghost use Rattle.std.specs.Prelude.{◌≡◌, ◌+◌, ◌-◌, ◌<◌, ◌≤◌, [], length, take, drop, IfOk, OnOk};
-ghost use Rattle.spec_lists.specs.Piece.{identity, normal};
-ghost use Rattle.spec_lang.specs.Matcher.{accepts};
-ghost use Rattle.spec_lang.specs.Kind.{Says};
+ghost use Rattle.spec_views.specs.Piece.{identity, normal};
+ghost use Rattle.spec_views.specs.Matcher.{accepts};
+ghost use Rattle.spec_views.specs.Kind.{Says};
 ghost use Rattle.gl_kernel.specs.Fates.{edits_of};
 ghost use Rattle.gl_kernel.specs.Plans.{GoesOn, CanTell};
 ghost use Rattle.gl_filter.specs.Told.{told_change, switches, left_mark, shown_among, SaysHere, question, questions};
@@ -40,8 +40,8 @@ impl Filter {
     {
         let mark = left_mark(kind);
         let mut plan = Plan::new(alloc);
-        'visited: while let Some(place) = next_other(&self.marks, mark, plan.place) {
-            pass(&mut plan, mark, place)?;
+        'visited: while let Some(position) = next_other(&self.marks, mark, plan.position) {
+            pass(&mut plan, mark, position)?;
             self.visit(param, kind, input, &mut plan, steps)?;
         }
         pass(&mut plan, mark, self.marks.len())?;
@@ -57,26 +57,27 @@ impl Filter {
         plan: &mut Plan<bool>,
         steps: &mut Steps<L>,
     ) -> Result<(), AllocError>
-        requires within { plan.old.place < length (S.items input.now) }
+        requires within { plan.old.position < length (S.items input.now) }
         requires stands { StandsFor self.now (S.items input.now) }
         requires says { Says kind self.now.matcher param.now }
         requires few { length (S.items input.now) ≤ 2147483647 }
         requires can { CanTell (told_change (accepts self.now.matcher) (accepts param.now)
-            (take 1 (drop plan.old.place (S.items input.now)))) plan.old.out.pieces }
+            (take 1 (drop plan.old.position (S.items input.now)))) plan.old.out.pieces }
         ensures ok { OnOk result (GoesOn
-            (told_change (accepts self.now.matcher) (accepts param.now) (take 1 (drop plan.old.place (S.items input.now))))
-            (edits_of plan.old.place
-            (switches (accepts self.now.matcher) (accepts param.now) (take 1 (drop plan.old.place (S.items input.now)))))
+            (told_change (accepts self.now.matcher) (accepts param.now) (take 1 (drop plan.old.position (S.items input.now))))
+            (edits_of plan.old.position
+            (switches (accepts self.now.matcher) (accepts param.now) (take 1 (drop plan.old.position (S.items input.now)))))
             1 plan.old plan.new) }
-        ensures counted { steps.new ≡ steps.old + questions kind (take 1 (drop plan.old.place self.now.shown)) }
+        ensures counted { steps.new
+            ≡ steps.old + questions kind (take 1 (drop plan.old.position self.now.shown)) }
     {
-        let place = plan.place;
-        let v = element(input, place);
-        let was = self.marks.shown(place);
+        let position = plan.position;
+        let v = element(input, position);
+        let was = self.marks.shown(position);
         let is = decide(param, kind, was, v, steps);
         tell_kept(&mut plan.out, was, is, v)?;
-        note(&mut plan.log, place, was, is)?;
-        plan.place += 1;
+        note(&mut plan.log, position, was, is)?;
+        plan.position += 1;
         Ok(())
     }
 }
@@ -95,19 +96,20 @@ fn left_mark(kind: EditKind) -> Option<bool>
 }
 
 // Passes over the elements up to a place, which have this mark and keep it.
-fn pass(plan: &mut Plan<bool>, mark: Option<bool>, place: usize) -> Result<(), AllocError>
-    requires onward { plan.old.place ≤ place }
-    requires can { CanTell (identity (shown_among mark (place - plan.old.place))) plan.old.out.pieces }
+fn pass(plan: &mut Plan<bool>, mark: Option<bool>, position: usize) -> Result<(), AllocError>
+    requires onward { plan.old.position ≤ position }
+    requires can { CanTell (identity (shown_among mark (position - plan.old.position)))
+        plan.old.out.pieces }
     ensures { OnOk result (GoesOn
-        (identity (shown_among mark (place - plan.old.place))) [] (place - plan.old.place) plan.old plan.new) }
+        (identity (shown_among mark (position - plan.old.position))) [] (position - plan.old.position) plan.old plan.new) }
 {
     let shown = match mark {
-        Some(true) => place - plan.place,
+        Some(true) => position - plan.position,
         Some(false) => 0,
         None => 0,
     };
     tell(&mut plan.out, Cell::Keep(shown))?;
-    plan.place = place;
+    plan.position = position;
     Ok(())
 }
 

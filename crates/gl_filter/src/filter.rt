@@ -1,11 +1,11 @@
 //! A filter.
 
 ghost use Rattle.std.specs.Prelude.{◌≡◌, ◌+◌, ◌<◌, ◌≤◌, ◌↔◌, List, length, map, slice_get, IsSome, IfOk, OnOk, OnErr};
-ghost use Rattle.spec_value.specs.Tree.{Tree};
-ghost use Rattle.spec_lists.specs.Piece.{turned};
-ghost use Rattle.spec_lists.specs.Leads.{LeadsTo, applied};
-ghost use Rattle.spec_lang.specs.Kind.{Says};
-ghost use Rattle.spec_lang.specs.Matcher.{accepts};
+ghost use Rattle.spec_views.specs.Tree.{Tree};
+ghost use Rattle.spec_views.specs.Piece.{inverted};
+ghost use Rattle.spec_views.specs.Leads.{LeadsTo, applied};
+ghost use Rattle.spec_views.specs.Kind.{Says};
+ghost use Rattle.spec_views.specs.Matcher.{accepts};
 ghost use Rattle.spec_views.specs.Filter.{filter_view, filter_follow, filter_change};
 ghost use Rattle.gl_barcode.specs.Bars.{count_shown};
 ghost use Rattle.gl_kernel.specs.Found.{found};
@@ -64,8 +64,8 @@ impl Filter {
         ensures counted { steps.new ≤ steps.old + length (S.items input.now) }
     {
         let mut marking = Marking::new(alloc);
-        for place in 0..input.len() {
-            let shown = param.accepts(element(input, place), steps);
+        for position in 0..input.len() {
+            let shown = param.accepts(element(input, position), steps);
             marking.push(shown)?;
         }
         Ok(Filter {
@@ -84,9 +84,10 @@ impl Filter {
         steps: &mut Steps<L>,
     ) -> Result<(Delta, FilterUndo), AllocError>
         requires leads { LeadsTo d.now.pieces (S.items input.now) }
-        requires stands { StandsFor self.old (applied (map turned d.now.pieces) (S.items input.now)) }
+        requires stands { StandsFor self.old
+            (applied (map inverted d.now.pieces) (S.items input.now)) }
         ensures pieces { IfOk result (λ told. told.0.pieces
-            ≡ filter_follow (accepts self.old.matcher) (applied (map turned d.now.pieces) (S.items input.now)) d.now.pieces) }
+            ≡ filter_follow (accepts self.old.matcher) (applied (map inverted d.now.pieces) (S.items input.now)) d.now.pieces) }
         ensures stands { OnOk result (StandsFor self.new (S.items input.now)) }
         ensures undo { IfOk result (λ told. IsUndo told.1 self.old self.new) }
         ensures err { OnErr result (contents self.new ≡ contents self.old) }
@@ -158,12 +159,12 @@ impl Filter {
     }
 
     /// Where the element that is shown at a place stands, or `None` exactly where the place isn't below the length.
-    pub fn find(&self, place: usize) -> Option<Find<'_>>
-        ensures some { IsSome result ↔ (place < count_shown self.now.shown) }
+    pub fn find(&self, position: usize) -> Option<Find<'_>>
+        ensures some { IsSome result ↔ (position < count_shown self.now.shown) }
         ensures found { (xs : List Tree) → StandsFor self.now xs
-            → found result xs ≡ slice_get (filter_view (accepts self.now.matcher) xs) place }
+            → found result xs ≡ slice_get (filter_view (accepts self.now.matcher) xs) position }
     {
-        match self.marks.select(place) {
+        match self.marks.select(position) {
             Some(at) => Some(Find::Input(at)),
             None => None,
         }

@@ -1,9 +1,9 @@
 //! What a filter tells of a change of its list, and the edits of its marks.
 
 ghost use Rattle.std.specs.Prelude.{◌≡◌, ◌+◌, ◌≤◌, length, drop, IfOk, OnOk};
-ghost use Rattle.spec_lists.specs.Piece.{old_len, normal};
-ghost use Rattle.spec_lists.specs.Cells.{pieces_in};
-ghost use Rattle.spec_lang.specs.Matcher.{accepts};
+ghost use Rattle.spec_views.specs.Piece.{old_len, normal};
+ghost use Rattle.spec_views.specs.Cells.{pieces_in};
+ghost use Rattle.spec_views.specs.Matcher.{accepts};
 ghost use Rattle.gl_delta.specs.Cells.{cell_ref};
 ghost use Rattle.gl_kernel.specs.Fates.{edits_of};
 ghost use Rattle.gl_kernel.specs.Plans.{GoesOn, CanTell};
@@ -27,8 +27,12 @@ pub(crate) fn follow<L: Ledger>(
     steps: &mut Steps<L>,
 ) -> Result<Plan<bool>, AllocError>
     requires { old_len d.now.pieces ≡ length marks.now.shown }
-    ensures told { IfOk result (λ plan. plan.out.pieces ≡ normal (told_marks (accepts matcher.now) marks.now.shown d.now.pieces)) }
-    ensures edits { IfOk result (λ plan. plan.log.items ≡ edits_of 0 (fates (accepts matcher.now) marks.now.shown d.now.pieces)) }
+    ensures told { IfOk result
+        (λ plan. plan.out.pieces
+        ≡ normal (told_marks (accepts matcher.now) marks.now.shown d.now.pieces)) }
+    ensures edits { IfOk result
+        (λ plan. plan.log.items
+        ≡ edits_of 0 (fates (accepts matcher.now) marks.now.shown d.now.pieces)) }
     ensures counted { steps.new ≤ steps.old + asked d.now.pieces }
 {
     let _olds = d.old_len();
@@ -50,41 +54,44 @@ fn step<L: Ledger>(
     cell: CellRef<'_>,
     steps: &mut Steps<L>,
 ) -> Result<(), AllocError>
-    requires within { plan.old.place + old_len (pieces_in (cell_ref cell)) ≤ length marks.now.shown }
+    requires within { plan.old.position + old_len (pieces_in (cell_ref cell))
+        ≤ length marks.now.shown }
     requires few { length marks.now.shown ≤ 2147483647 }
-    requires can { CanTell (told_marks (accepts matcher.now) (drop plan.old.place marks.now.shown) (pieces_in (cell_ref cell))) plan.old.out.pieces }
+    requires can { CanTell
+        (told_marks (accepts matcher.now) (drop plan.old.position marks.now.shown)
+        (pieces_in (cell_ref cell))) plan.old.out.pieces }
     ensures ok { OnOk result (GoesOn
-        (told_marks (accepts matcher.now) (drop plan.old.place marks.now.shown) (pieces_in (cell_ref cell.entry)))
-        (edits_of plan.old.place (fates (accepts matcher.now) (drop plan.old.place marks.now.shown) (pieces_in (cell_ref cell.entry))))
+        (told_marks (accepts matcher.now) (drop plan.old.position marks.now.shown) (pieces_in (cell_ref cell.entry)))
+        (edits_of plan.old.position (fates (accepts matcher.now) (drop plan.old.position marks.now.shown) (pieces_in (cell_ref cell.entry))))
         (old_len (pieces_in (cell_ref cell.entry))) plan.old plan.new) }
     ensures counted { steps.new ≡ steps.old + asked (pieces_in (cell_ref cell.entry)) }
 {
-    let place = plan.place;
+    let position = plan.position;
     match cell {
         CellRef::Keep(n) => {
-            let shown = marks.rank(place + n) - marks.rank(place);
+            let shown = marks.rank(position + n) - marks.rank(position);
             tell(&mut plan.out, Cell::Keep(shown))?;
-            plan.place += n;
+            plan.position += n;
             Ok(())
         }
         CellRef::Update(old, new) => {
-            let was = marks.shown(place);
+            let was = marks.shown(position);
             let is = matcher.accepts(new, steps);
             tell_update(&mut plan.out, was, is, old, new)?;
-            note(&mut plan.log, place, was, is)?;
-            plan.place += 1;
+            note(&mut plan.log, position, was, is)?;
+            plan.position += 1;
             Ok(())
         }
         CellRef::Delete(old) => {
-            tell_delete(&mut plan.out, marks.shown(place), old)?;
-            plan.log.push(LogStep::Remove(place))?;
-            plan.place += 1;
+            tell_delete(&mut plan.out, marks.shown(position), old)?;
+            plan.log.push(LogStep::Remove(position))?;
+            plan.position += 1;
             Ok(())
         }
         CellRef::Insert(new) => {
             let is = matcher.accepts(new, steps);
             tell_insert(&mut plan.out, is, new)?;
-            plan.log.push(LogStep::Insert(place, is))?;
+            plan.log.push(LogStep::Insert(position, is))?;
             Ok(())
         }
     }

@@ -14,8 +14,8 @@ impl Kernel for Filter {
     type Undo = FilterUndo;
 
     ghost use Rattle.std.specs.Prelude.{◌≡◌};
-    ghost use Rattle.spec_lang.specs.Kind.{Says};
-    ghost use Rattle.spec_lang.specs.Matcher.{accepts};
+    ghost use Rattle.spec_views.specs.Kind.{Says};
+    ghost use Rattle.spec_views.specs.Matcher.{accepts};
     ghost use Rattle.spec_views.specs.Filter.{filter_view, filter_follow, filter_change};
     ghost use Rattle.gl_filter.specs.Stands.{StandsFor, contents, before, CanRetreat, IsUndo};
 
@@ -66,7 +66,7 @@ impl Kernel for Filter {
         Filter::len(self)
     }
 
-    fn find(&self, place: usize) -> Option<Find<'_>> {
-        Filter::find(self, place)
+    fn find(&self, position: usize) -> Option<Find<'_>> {
+        Filter::find(self, position)
     }
 }

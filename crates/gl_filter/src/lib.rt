@@ -11,4 +11,5 @@ mod marks;
 mod tests;
 
 pub use filter::{Filter, FilterUndo};
+pub use gl_editor::kind;
 pub use gl_value::Memory;

@@ -61,17 +61,17 @@ impl Marking {
 }
 
 /// The next place from one on that hasn't this mark, `None` where all from there on have it.
-pub(crate) fn next_other(marks: &Barcode, mark: Option<bool>, place: usize) -> Option<usize>
-    requires { place ≤ length marks.now.shown }
-    ensures next { IfSome result (IsNext mark marks.now.shown place) }
-    ensures none { result ≡ None → AreAll mark (drop place marks.now.shown) }
+pub(crate) fn next_other(marks: &Barcode, mark: Option<bool>, position: usize) -> Option<usize>
+    requires { position ≤ length marks.now.shown }
+    ensures next { IfSome result (IsNext mark marks.now.shown position) }
+    ensures none { result ≡ None → AreAll mark (drop position marks.now.shown) }
 {
     match mark {
-        Some(false) => marks.select(marks.rank(place)),
-        Some(true) => marks.select_hidden(place - marks.rank(place)),
+        Some(false) => marks.select(marks.rank(position)),
+        Some(true) => marks.select_hidden(position - marks.rank(position)),
         None => {
-            if place < marks.len() {
-                Some(place)
+            if position < marks.len() {
+                Some(position)
             } else {
                 None
             }
@@ -82,14 +82,15 @@ pub(crate) fn next_other(marks: &Barcode, mark: Option<bool>, place: usize) -> O
 /// The step of a log that changes a mark, where it is to be another one.
 pub(crate) fn note(
     log: &mut Vec<LogStep<bool>>,
-    place: usize,
+    position: usize,
     was: bool,
     is: bool,
 ) -> Result<(), AllocError>
-    ensures { OnOk result (log.new.items ≡ log.old.items ++ edits_of place (switch was is ∷ [])) }
+    ensures { OnOk result
+        (log.new.items ≡ log.old.items ++ edits_of position (switch was is ∷ [])) }
 {
     if was != is {
-        log.push(LogStep::Set(place, is))?;
+        log.push(LogStep::Set(position, is))?;
     }
     Ok(())
 }

@@ -1,6 +1,6 @@
 ghost use Rattle.std.specs.Prelude.{◌≡◌, ◌<◌};
-ghost use Rattle.spec_lists.specs.Leads.{IsDelta};
-ghost use Rattle.spec_lang.specs.Kind.{Says};
+ghost use Rattle.spec_views.specs.Leads.{IsDelta};
+ghost use Rattle.spec_views.specs.Kind.{Says};
 
 use crate::Filter;
 use gl_delta::Find;
@@ -14,8 +14,8 @@ use std::sync::ledger::{Blank, Ledger};
 use std::test::Fail;
 
 // Whether the filter of a list shows this number at a place.
-fn shows_at(filter: &Filter, list: &Values, place: usize, n: i64) -> bool {
-    match filter.find(place) {
+fn shows_at(filter: &Filter, list: &Values, position: usize, n: i64) -> bool {
+    match filter.find(position) {
         Some(Find::Input(at)) => match list.as_slice().get(at) {
             Some(v) => is_number(v, n),
             None => false,
@@ -25,8 +25,8 @@ fn shows_at(filter: &Filter, list: &Values, place: usize, n: i64) -> bool {
 }
 
 fn shows(filter: &Filter, list: &Values, shown: &[i64]) -> bool {
-    for (place, n) in shown.iter().enumerate() {
-        if !shows_at(filter, list, place, *n) {
+    for (position, n) in shown.iter().enumerate() {
+        if !shows_at(filter, list, position, *n) {
             return false;
         }
     }
@@ -80,78 +80,80 @@ fn followed(
     follows::<Brand>(rt, alloc, change, before, told, after, Blank::new(1))
 }
 
+/// A change of the list, what is shown before it, what is told of it, and what is shown after it.
+const FOLLOWED: [(&[Row], &[i64], &[Told], &[i64]); 8] = [
+    // deletions beside insertions
+    (
+        &[
+            Row::Delete(5),
+            Row::Delete(2),
+            Row::Insert(7),
+            Row::Insert(1),
+            Row::Keep(9),
+        ],
+        &[5i64, 9],
+        &[Told::Delete(5), Told::Insert(7), Told::Keep(1)],
+        &[7i64, 9],
+    ),
+    // a deletion is told before an insertion that stands before it
+    (
+        &[Row::Update(1, 6), Row::Delete(7)],
+        &[7],
+        &[Told::Delete(7), Told::Insert(6)],
+        &[6],
+    ),
+    // updates that cross the border, one that stays shown and one that stays hidden
+    (
+        &[
+            Row::Update(5, 1),
+            Row::Update(9, 8),
+            Row::Update(2, 4),
+            Row::Update(1, 2),
+        ],
+        &[5, 9],
+        &[Told::Delete(5), Told::Update(9, 8), Told::Insert(4)],
+        &[8, 4],
+    ),
+    // an update by an equal value is an update
+    (
+        &[Row::Update(5, 5), Row::Update(3, 3)],
+        &[5],
+        &[Told::Update(5, 5)],
+        &[5],
+    ),
+    // hidden elements aren't told
+    (
+        &[
+            Row::Keep(1),
+            Row::Keep(5),
+            Row::Keep(6),
+            Row::Insert(2),
+            Row::Keep(3),
+            Row::Delete(0),
+        ],
+        &[5, 6],
+        &[Told::Keep(2)],
+        &[5, 6],
+    ),
+    // empty lists, from them and to them
+    (&[], &[], &[], &[]),
+    (
+        &[Row::Insert(4), Row::Insert(3)],
+        &[],
+        &[Told::Insert(4)],
+        &[4],
+    ),
+    (
+        &[Row::Delete(4), Row::Delete(1), Row::Delete(5)],
+        &[4, 5],
+        &[Told::Delete(4), Told::Delete(5)],
+        &[],
+    ),
+];
+
 #[test]
 fn deltas_through_a_filter(rt: HostRuntime) -> Result<(), Fail> {
-    for (rows, before, told, after) in [
-        // deletions beside insertions
-        (
-            [
-                Row::Delete(5),
-                Row::Delete(2),
-                Row::Insert(7),
-                Row::Insert(1),
-                Row::Keep(9),
-            ]
-            .as_slice(),
-            [5i64, 9].as_slice(),
-            [Told::Delete(5), Told::Insert(7), Told::Keep(1)].as_slice(),
-            [7i64, 9].as_slice(),
-        ),
-        // a deletion is told before an insertion that stands in front of it
-        (
-            &[Row::Update(1, 6), Row::Delete(7)],
-            &[7],
-            &[Told::Delete(7), Told::Insert(6)],
-            &[6],
-        ),
-        // updates that cross the border, one that stays shown and one that stays hidden
-        (
-            &[
-                Row::Update(5, 1),
-                Row::Update(9, 8),
-                Row::Update(2, 4),
-                Row::Update(1, 2),
-            ],
-            &[5, 9],
-            &[Told::Delete(5), Told::Update(9, 8), Told::Insert(4)],
-            &[8, 4],
-        ),
-        // an update by an equal value is an update
-        (
-            &[Row::Update(5, 5), Row::Update(3, 3)],
-            &[5],
-            &[Told::Update(5, 5)],
-            &[5],
-        ),
-        // hidden elements aren't told
-        (
-            &[
-                Row::Keep(1),
-                Row::Keep(5),
-                Row::Keep(6),
-                Row::Insert(2),
-                Row::Keep(3),
-                Row::Delete(0),
-            ],
-            &[5, 6],
-            &[Told::Keep(2)],
-            &[5, 6],
-        ),
-        // empty lists, from them and to them
-        (&[], &[], &[], &[]),
-        (
-            &[Row::Insert(4), Row::Insert(3)],
-            &[],
-            &[Told::Insert(4)],
-            &[4],
-        ),
-        (
-            &[Row::Delete(4), Row::Delete(1), Row::Delete(5)],
-            &[4, 5],
-            &[Told::Delete(4), Told::Delete(5)],
-            &[],
-        ),
-    ] {
+    for (rows, before, told, after) in FOLLOWED {
         let change = change_of(rt.alloc(), rows)?;
         followed(&rt, rt.alloc(), &change, before, told, after)?;
     }

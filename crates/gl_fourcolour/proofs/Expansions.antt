@@ -42,63 +42,63 @@ pub length-expanded-append : (xs ys : List Run) → length (expanded (xs ++ ys))
 length-expanded-append xs ys = omega (arith, ap length (expanded-append xs ys), length-append (expanded xs) (expanded ys))
 
 -- a run in the middle, cut after some of its places
-pub expanded_cut : (front rest : List Run) (c l o : ℕ) → o ≤ l → expanded (front ++ record { colour = c; len = l } ∷ rest) ≡ (expanded front ++ replicate o c) ++ (replicate (l - o) c ++ expanded rest)
-expanded_cut front rest c l o within =
+pub expanded_cut : (prefix rest : List Run) (c l o : ℕ) → o ≤ l → expanded (prefix ++ record { colour = c; len = l } ∷ rest) ≡ (expanded prefix ++ replicate o c) ++ (replicate (l - o) c ++ expanded rest)
+expanded_cut prefix rest c l o within =
     let whole : l ≡ o + (l - o) = omega (arith, within) in
     let run : replicate l c ≡ replicate o c ++ replicate (l - o) c = ap (λ k. replicate k c) whole ∙ rep_add o (l - o) c in
-    expanded-append front (record { colour = c; len = l } ∷ rest) ∙ (ap (λ zs. expanded front ++ zs) (expanded-cons (record { colour = c; len = l }) rest ∙ (ap (λ zs. zs ++ expanded rest) run ∙ append_assoc (replicate o c) (replicate (l - o) c) (expanded rest))) ∙ sym (append_assoc (expanded front) (replicate o c) (replicate (l - o) c ++ expanded rest)))
+    expanded-append prefix (record { colour = c; len = l } ∷ rest) ∙ (ap (λ zs. expanded prefix ++ zs) (expanded-cons (record { colour = c; len = l }) rest ∙ (ap (λ zs. zs ++ expanded rest) run ∙ append_assoc (replicate o c) (replicate (l - o) c) (expanded rest))) ∙ sym (append_assoc (expanded prefix) (replicate o c) (replicate (l - o) c ++ expanded rest)))
 
-pub length-front : (front : List Run) (c o : ℕ) → length (expanded front ++ replicate o c) ≡ length (expanded front) + o
-length-front front c o = omega (arith, length-append (expanded front) (replicate o c), length-replicate o c)
+pub length-prefix : (prefix : List Run) (c o : ℕ) → length (expanded prefix ++ replicate o c) ≡ length (expanded prefix) + o
+length-prefix prefix c o = omega (arith, length-append (expanded prefix) (replicate o c), length-replicate o c)
 
 -- a longer run
-pub grow_colours : (front rest : List Run) (c l o n at : ℕ) → o ≤ l → at ≡ length (expanded front) + o → expanded (front ++ record { colour = c; len = l + n } ∷ rest) ≡ inserted (expanded (front ++ record { colour = c; len = l } ∷ rest)) at c n
-grow_colours front rest c l o n at within at_is =
-    let split = ap (λ zs. inserted zs at c n) (expanded_cut front rest c l o within) in
-    let put = inserted_at (expanded front ++ replicate o c) (replicate (l - o) c ++ expanded rest) at c n (omega (arith, at_is, length-front front c o)) in
-    let whole = expanded_cut front rest c (l + n) o (omega (arith, within)) in
+pub grow_colours : (prefix rest : List Run) (c l o n at : ℕ) → o ≤ l → at ≡ length (expanded prefix) + o → expanded (prefix ++ record { colour = c; len = l + n } ∷ rest) ≡ inserted (expanded (prefix ++ record { colour = c; len = l } ∷ rest)) at c n
+grow_colours prefix rest c l o n at within at_is =
+    let split = ap (λ zs. inserted zs at c n) (expanded_cut prefix rest c l o within) in
+    let put = inserted_at (expanded prefix ++ replicate o c) (replicate (l - o) c ++ expanded rest) at c n (omega (arith, at_is, length-prefix prefix c o)) in
+    let whole = expanded_cut prefix rest c (l + n) o (omega (arith, within)) in
     let left : l + n - o ≡ n + (l - o) = omega (arith, within) in
     let middle : replicate (l + n - o) c ≡ replicate n c ++ replicate (l - o) c = ap (λ k. replicate k c) left ∙ rep_add n (l - o) c in
-    whole ∙ (ap (λ zs. (expanded front ++ replicate o c) ++ zs) (ap (λ zs. zs ++ expanded rest) middle ∙ append_assoc (replicate n c) (replicate (l - o) c) (expanded rest)) ∙ sym (split ∙ put))
+    whole ∙ (ap (λ zs. (expanded prefix ++ replicate o c) ++ zs) (ap (λ zs. zs ++ expanded rest) middle ∙ append_assoc (replicate n c) (replicate (l - o) c) (expanded rest)) ∙ sym (split ∙ put))
 
 -- a run in the middle of another
-pub split_colours : (front rest : List Run) (c l o d n at : ℕ) → o ≤ l → at ≡ length (expanded front) + o → expanded (front ++ record { colour = c; len = o } ∷ record { colour = d; len = n } ∷ record { colour = c; len = l - o } ∷ rest) ≡ inserted (expanded (front ++ record { colour = c; len = l } ∷ rest)) at d n
-split_colours front rest c l o d n at within at_is =
-    let split = ap (λ zs. inserted zs at d n) (expanded_cut front rest c l o within) in
-    let put = inserted_at (expanded front ++ replicate o c) (replicate (l - o) c ++ expanded rest) at d n (omega (arith, at_is, length-front front c o)) in
+pub split_colours : (prefix rest : List Run) (c l o d n at : ℕ) → o ≤ l → at ≡ length (expanded prefix) + o → expanded (prefix ++ record { colour = c; len = o } ∷ record { colour = d; len = n } ∷ record { colour = c; len = l - o } ∷ rest) ≡ inserted (expanded (prefix ++ record { colour = c; len = l } ∷ rest)) at d n
+split_colours prefix rest c l o d n at within at_is =
+    let split = ap (λ zs. inserted zs at d n) (expanded_cut prefix rest c l o within) in
+    let put = inserted_at (expanded prefix ++ replicate o c) (replicate (l - o) c ++ expanded rest) at d n (omega (arith, at_is, length-prefix prefix c o)) in
     let third = expanded-cons (record { colour = c; len = l - o }) rest in
     let second = expanded-cons (record { colour = d; len = n }) (record { colour = c; len = l - o } ∷ rest) ∙ ap (λ zs. replicate n d ++ zs) third in
     let first = expanded-cons (record { colour = c; len = o }) (record { colour = d; len = n } ∷ record { colour = c; len = l - o } ∷ rest) ∙ ap (λ zs. replicate o c ++ zs) second in
-    let whole = expanded-append front (record { colour = c; len = o } ∷ record { colour = d; len = n } ∷ record { colour = c; len = l - o } ∷ rest) ∙ ap (λ zs. expanded front ++ zs) first in
-    whole ∙ (sym (append_assoc (expanded front) (replicate o c) (replicate n d ++ (replicate (l - o) c ++ expanded rest))) ∙ sym (split ∙ put))
+    let whole = expanded-append prefix (record { colour = c; len = o } ∷ record { colour = d; len = n } ∷ record { colour = c; len = l - o } ∷ rest) ∙ ap (λ zs. expanded prefix ++ zs) first in
+    whole ∙ (sym (append_assoc (expanded prefix) (replicate o c) (replicate n d ++ (replicate (l - o) c ++ expanded rest))) ∙ sym (split ∙ put))
 
 -- a run between two others
-pub new_colours : (front back : List Run) (d n at : ℕ) → at ≡ length (expanded front) → expanded (front ++ record { colour = d; len = n } ∷ back) ≡ inserted (expanded (front ++ back)) at d n
-new_colours front back d n at at_is =
-    expanded-append front (record { colour = d; len = n } ∷ back) ∙ (ap (λ zs. expanded front ++ zs) (expanded-cons (record { colour = d; len = n }) back) ∙ sym (ap (λ zs. inserted zs at d n) (expanded-append front back) ∙ inserted_at (expanded front) (expanded back) at d n at_is))
+pub new_colours : (prefix back : List Run) (d n at : ℕ) → at ≡ length (expanded prefix) → expanded (prefix ++ record { colour = d; len = n } ∷ back) ≡ inserted (expanded (prefix ++ back)) at d n
+new_colours prefix back d n at at_is =
+    expanded-append prefix (record { colour = d; len = n } ∷ back) ∙ (ap (λ zs. expanded prefix ++ zs) (expanded-cons (record { colour = d; len = n }) back) ∙ sym (ap (λ zs. inserted zs at d n) (expanded-append prefix back) ∙ inserted_at (expanded prefix) (expanded back) at d n at_is))
 
 -- a shorter run
-pub cut_colours : (front rest : List Run) (c l o t at : ℕ) → o + t ≤ l → at ≡ length (expanded front) + o → expanded (front ++ record { colour = c; len = l - t } ∷ rest) ≡ removed (expanded (front ++ record { colour = c; len = l } ∷ rest)) at t
-cut_colours front rest c l o t at within at_is =
+pub cut_colours : (prefix rest : List Run) (c l o t at : ℕ) → o + t ≤ l → at ≡ length (expanded prefix) + o → expanded (prefix ++ record { colour = c; len = l - t } ∷ rest) ≡ removed (expanded (prefix ++ record { colour = c; len = l } ∷ rest)) at t
+cut_colours prefix rest c l o t at within at_is =
     let left : l - o ≡ t + (l - t - o) = omega (arith, within) in
     let run : replicate (l - o) c ≡ replicate t c ++ replicate (l - t - o) c = ap (λ k. replicate k c) left ∙ rep_add t (l - t - o) c in
     let back : replicate (l - o) c ++ expanded rest ≡ replicate t c ++ (replicate (l - t - o) c ++ expanded rest) = ap (λ zs. zs ++ expanded rest) run ∙ append_assoc (replicate t c) (replicate (l - t - o) c) (expanded rest) in
-    let split = expanded_cut front rest c l o (omega (arith, within)) ∙ ap (λ zs. (expanded front ++ replicate o c) ++ zs) back in
-    let out = removed_at (expanded front ++ replicate o c) (replicate t c) (replicate (l - t - o) c ++ expanded rest) at t (omega (arith, at_is, length-front front c o)) (sym (length-replicate t c)) in
-    expanded_cut front rest c (l - t) o (omega (arith, within)) ∙ sym (ap (λ zs. removed zs at t) split ∙ out)
+    let split = expanded_cut prefix rest c l o (omega (arith, within)) ∙ ap (λ zs. (expanded prefix ++ replicate o c) ++ zs) back in
+    let out = removed_at (expanded prefix ++ replicate o c) (replicate t c) (replicate (l - t - o) c ++ expanded rest) at t (omega (arith, at_is, length-prefix prefix c o)) (sym (length-replicate t c)) in
+    expanded_cut prefix rest c (l - t) o (omega (arith, within)) ∙ sym (ap (λ zs. removed zs at t) split ∙ out)
 
 -- without a whole run
-pub whole_colours : (front rest : List Run) (r : Run) (at : ℕ) → at ≡ length (expanded front) → expanded front ++ expanded rest ≡ removed (expanded (front ++ r ∷ rest)) at r.len
-whole_colours front rest r at at_is =
-    sym (ap (λ zs. removed zs at r.len) (expanded-append front (r ∷ rest) ∙ ap (λ zs. expanded front ++ zs) (expanded-cons r rest)) ∙ removed_at (expanded front) (replicate r.len r.colour) (expanded rest) at r.len at_is (sym (length-replicate r.len r.colour)))
+pub whole_colours : (prefix rest : List Run) (r : Run) (at : ℕ) → at ≡ length (expanded prefix) → expanded prefix ++ expanded rest ≡ removed (expanded (prefix ++ r ∷ rest)) at r.len
+whole_colours prefix rest r at at_is =
+    sym (ap (λ zs. removed zs at r.len) (expanded-append prefix (r ∷ rest) ∙ ap (λ zs. expanded prefix ++ zs) (expanded-cons r rest)) ∙ removed_at (expanded prefix) (replicate r.len r.colour) (expanded rest) at r.len at_is (sym (length-replicate r.len r.colour)))
 
 -- two neighbours as one
-pub joined_colours : (front rest : List Run) (l r : Run) → l.colour ≡ r.colour → expanded (front ++ record { colour = l.colour; len = l.len + r.len } ∷ rest) ≡ expanded (front ++ l ∷ r ∷ rest)
-joined_colours front rest l r same =
+pub joined_colours : (prefix rest : List Run) (l r : Run) → l.colour ≡ r.colour → expanded (prefix ++ record { colour = l.colour; len = l.len + r.len } ∷ rest) ≡ expanded (prefix ++ l ∷ r ∷ rest)
+joined_colours prefix rest l r same =
     let run : replicate (l.len + r.len) l.colour ++ expanded rest ≡ replicate l.len l.colour ++ (replicate r.len r.colour ++ expanded rest) =
     ap (λ zs. zs ++ expanded rest) (rep_add l.len r.len l.colour) ∙ (append_assoc (replicate l.len l.colour) (replicate r.len l.colour) (expanded rest) ∙ ap (λ c. replicate l.len l.colour ++ (replicate r.len c ++ expanded rest)) same) in
     let apart : expanded (l ∷ r ∷ rest) ≡ replicate l.len l.colour ++ (replicate r.len r.colour ++ expanded rest) = expanded-cons l (r ∷ rest) ∙ ap (λ zs. replicate l.len l.colour ++ zs) (expanded-cons r rest) in
-    expanded-append front (record { colour = l.colour; len = l.len + r.len } ∷ rest) ∙ (ap (λ zs. expanded front ++ zs) (expanded-cons (record { colour = l.colour; len = l.len + r.len }) rest ∙ (run ∙ sym apart)) ∙ sym (expanded-append front (l ∷ r ∷ rest)))
+    expanded-append prefix (record { colour = l.colour; len = l.len + r.len } ∷ rest) ∙ (ap (λ zs. expanded prefix ++ zs) (expanded-cons (record { colour = l.colour; len = l.len + r.len }) rest ∙ (run ∙ sym apart)) ∙ sym (expanded-append prefix (l ∷ r ∷ rest)))
 
 pub nothing : length (expanded []) ≡ 0
 unfolding expanded

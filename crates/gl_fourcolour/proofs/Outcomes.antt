@@ -24,12 +24,12 @@ painted_none xs at c n none =
 pub painted_is : (xs : List ℕ) (at n c : ℕ) → at ≤ length xs → inserted (removed xs at n) at c n ≡ painted xs at n c
 unfolding inserted painted removed
 painted_is xs at n c within =
-    let front = take at xs in
+    let prefix = take at xs in
     let back = drop (at + n) xs in
-    let len : at ≡ length front = sym (length-take-le at xs within) in
-    let taken : take at (front ++ back) ≡ front = ap (λ k. take k (front ++ back)) len ∙ take-append_seam front back in
-    let dropped : drop at (front ++ back) ≡ back = ap (λ k. drop k (front ++ back)) len ∙ drop-append_seam front back in
-    ap (λ zs. zs ++ (replicate n c ++ drop at (front ++ back))) taken ∙ ap (λ zs. front ++ (replicate n c ++ zs)) dropped
+    let len : at ≡ length prefix = sym (length-take-le at xs within) in
+    let taken : take at (prefix ++ back) ≡ prefix = ap (λ k. take k (prefix ++ back)) len ∙ take-append_seam prefix back in
+    let dropped : drop at (prefix ++ back) ≡ back = ap (λ k. drop k (prefix ++ back)) len ∙ drop-append_seam prefix back in
+    ap (λ zs. zs ++ (replicate n c ++ drop at (prefix ++ back))) taken ∙ ap (λ zs. prefix ++ (replicate n c ++ zs)) dropped
 
 -- what the value says of the runs
 pub row_is : (bound : ℕ) (row : Row) (value : Colours) → IsKept bound row → record { colours = expanded row.runs; room = row.room } ≡ value → (expanded row.runs ≡ value.colours) × (row.room ≡ value.room) × (run_count value.colours ≡ length row.runs)

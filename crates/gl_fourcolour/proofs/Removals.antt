@@ -11,7 +11,7 @@ use Rattle.gl_fourcolour.proofs.Maximal.{resized, without, without_joined, parts
 use Rattle.gl_fourcolour.proofs.Spots.{AtRun, run_facts, set_here, ends, Joins, first_is, meets_gap}
 
 -- taking out of a list
-parted : (xs : List ℕ) (at : ℕ) → at ≤ length xs → (front : List ℕ) × (back : List ℕ) × (xs ≡ front ++ back) × (at ≡ length front)
+parted : (xs : List ℕ) (at : ℕ) → at ≤ length xs → (prefix : List ℕ) × (back : List ℕ) × (xs ≡ prefix ++ back) × (at ≡ length prefix)
 parted xs at within = (take at xs, drop at xs, sym (take-append-drop at xs), sym (length-take-le at xs within))
 
 pub removed_none : (xs : List ℕ) (at : ℕ) → at ≤ length xs → removed xs at 0 ≡ xs
@@ -37,60 +37,60 @@ length-removed xs at n within =
     omega (arith, length-append (take at xs) (drop (at + n) xs), length-take-le at xs (omega (arith, within)), length-drop (at + n) xs)
 
 -- a shorter run
-pub cut_done : (bound at n place start taken : ℕ) (old new : Row) (here : Run) → CanCut bound old at n → AtRun old.runs at place start here → taken ≤ here.len - (at - start) → taken < here.len → new.runs ≡ set old.runs place (record { colour = here.colour; len = here.len - taken }) → new.room ≡ old.room → Cuts bound old new at taken
-cut_done bound at n place start taken old new here can a few less new_is room_is =
+pub cut_done : (bound at n position start taken : ℕ) (old new : Row) (here : Run) → CanCut bound old at n → AtRun old.runs at position start here → taken ≤ here.len - (at - start) → taken < here.len → new.runs ≡ set old.runs position (record { colour = here.colour; len = here.len - taken }) → new.room ≡ old.room → Cuts bound old new at taken
+cut_done bound at n position start taken old new here can a few less new_is room_is =
     let shorter : Run = record { colour = here.colour; len = here.len - taken } in
-    let runs_are = new_is ∙ set_here old.runs a.front a.rest here shorter place a.is a.place_is in
-    let max = resized bound a.front a.rest here.colour here.len (here.len - taken) (omega (arith, less)) (subst (λ rs. IsMaximal bound rs) a.is can.maximal) in
+    let runs_are = new_is ∙ set_here old.runs a.prefix a.rest here shorter position a.is a.position_is in
+    let max = resized bound a.prefix a.rest here.colour here.len (here.len - taken) (omega (arith, less)) (subst (λ rs. IsMaximal bound rs) a.is can.maximal) in
     record {
       maximal = subst (λ rs. IsMaximal bound rs) (sym runs_are) max;
-      colours = ap expanded runs_are ∙ (cut_colours a.front a.rest here.colour here.len (at - start) taken at (omega (arith, few, a.inside, a.reached)) (omega (arith, a.start_is, a.reached)) ∙ ap (λ rs. removed (expanded rs) at taken) (sym a.is));
-      fewer = omega (arith, ap length new_is, length-set old.runs place shorter);
+      colours = ap expanded runs_are ∙ (cut_colours a.prefix a.rest here.colour here.len (at - start) taken at (omega (arith, few, a.inside, a.reached)) (omega (arith, a.start_is, a.reached)) ∙ ap (λ rs. removed (expanded rs) at taken) (sym a.is));
+      fewer = omega (arith, ap length new_is, length-set old.runs position shorter);
       room = room_is;
     }
 
 -- a whole run
-pub whole_done : (bound at n place start taken : ℕ) (old new : Row) (here : Run) → CanCut bound old at n → (a : AtRun old.runs at place start here) → taken ≤ here.len - (at - start) → here.len ≤ taken → TakesOut bound old new a.front a.rest → Cuts bound old new at taken
-whole_done bound at n place start taken old new here can a few all out =
-    let f = run_facts bound old.runs a.front a.rest here can.few_colours can.maximal a.is in
+pub whole_done : (bound at n position start taken : ℕ) (old new : Row) (here : Run) → CanCut bound old at n → (a : AtRun old.runs at position start here) → taken ≤ here.len - (at - start) → here.len ≤ taken → TakesOut bound old new a.prefix a.rest → Cuts bound old new at taken
+whole_done bound at n position start taken old new here can a few all out =
+    let f = run_facts bound old.runs a.prefix a.rest here can.few_colours can.maximal a.is in
     let taken_is : taken ≡ here.len = omega (arith, few, all) in
-    let at_is : at ≡ length (expanded a.front) = omega (arith, few, all, a.reached, a.start_is, f.some) in
+    let at_is : at ≡ length (expanded a.prefix) = omega (arith, few, all, a.reached, a.start_is, f.some) in
     record {
       maximal = out.maximal;
-      colours = out.colours ∙ (whole_colours a.front a.rest here at at_is ∙ (ap (λ rs. removed (expanded rs) at here.len) (sym a.is) ∙ ap (λ k. removed (expanded old.runs) at k) (sym taken_is)));
+      colours = out.colours ∙ (whole_colours a.prefix a.rest here at at_is ∙ (ap (λ rs. removed (expanded rs) at here.len) (sym a.is) ∙ ap (λ k. removed (expanded old.runs) at k) (sym taken_is)));
       fewer = out.fewer;
       room = out.room;
     }
 
 -- a gap that stays
-pub gap_kept : (bound : ℕ) (old : Row) (front back : List Run) (r : Run) (left right : Option Run) → old.runs ≡ front ++ back → IsMaximal bound (front ++ r ∷ back) → None ≡ joined left right → left ≡ last_run front → right ≡ first_run back → TakesOut bound old old front back
-gap_kept bound old front back r left right is m none left_is right_is =
-    let none_is : None ≡ joined (last_run front) (first_run back) = none ∙ (ap (λ o. joined o right) left_is ∙ ap (λ o. joined (last_run front) o) right_is) in
-    let max = without bound front back r (meets_gap front back none_is) m in
+pub gap_kept : (bound : ℕ) (old : Row) (prefix back : List Run) (r : Run) (left right : Option Run) → old.runs ≡ prefix ++ back → IsMaximal bound (prefix ++ r ∷ back) → None ≡ joined left right → left ≡ last_run prefix → right ≡ first_run back → TakesOut bound old old prefix back
+gap_kept bound old prefix back r left right is m none left_is right_is =
+    let none_is : None ≡ joined (last_run prefix) (first_run back) = none ∙ (ap (λ o. joined o right) left_is ∙ ap (λ o. joined (last_run prefix) o) right_is) in
+    let max = without bound prefix back r (meets_gap prefix back none_is) m in
     record {
       maximal = subst (λ rs. IsMaximal bound rs) (sym is) max;
-      colours = ap expanded is ∙ expanded-append front back;
+      colours = ap expanded is ∙ expanded-append prefix back;
       fewer = omega arith;
       room = refl;
     }
 
 -- a gap between two runs of one colour
-pub record Gap (bound place : ℕ) (old : Row) (front back : List Run) (whole : Run) : Type 0 where
+pub record Gap (bound position : ℕ) (old : Row) (prefix back : List Run) (whole : Run) : Type 0 where
   pub start : List Run
   pub rest : List Run
   pub l : Run
   pub x : Run
-  pub front_is : front ≡ start ++ l ∷ []
+  pub prefix_is : prefix ≡ start ++ l ∷ []
   pub back_is : back ≡ x ∷ rest
   pub is : old.runs ≡ start ++ l ∷ x ∷ rest
-  pub place_is : place ≡ length start + 1
+  pub position_is : position ≡ length start + 1
   pub whole_is : whole ≡ record { colour = l.colour; len = l.len + x.len }
   pub same : l.colour ≡ x.colour
   pub colour : whole.colour < 4
   pub some : 1 ≤ whole.len
   pub small : whole.len < 2 ^ 32
-  pub count : place < length old.runs
-  pub after : place ≢ 0
+  pub count : position < length old.runs
+  pub after : position ≢ 0
   pub maximal : IsMaximal bound (start ++ record { colour = l.colour; len = l.len + x.len } ∷ rest)
 
 whole_same : (whole l x : Run) → whole.colour ≡ l.colour → whole.len ≡ l.len + x.len → whole ≡ record { colour = l.colour; len = l.len + x.len }
@@ -98,11 +98,11 @@ whole_same whole l x colours lens =
     let make : ℕ → ℕ → Run = λ c n. record { colour = c; len = n } in
     ap (λ c. make c whole.len) colours ∙ ap (λ n. make l.colour n) lens
 
-pub gap : (bound place : ℕ) (old : Row) (front back : List Run) (r : Run) (left right : Option Run) (whole : Run) → bound ≤ 4 → old.runs ≡ front ++ back → place ≡ length front → IsMaximal bound (front ++ r ∷ back) → length (expanded old.runs) < 2 ^ 32 → left ≡ last_run front → right ≡ first_run back → Joins left right whole → Gap bound place old front back whole
-gap bound place old front back r left right whole few is place_is m small left_is right_is j =
-    let e = ends front j.l (sym left_is ∙ j.left_is) in
+pub gap : (bound position : ℕ) (old : Row) (prefix back : List Run) (r : Run) (left right : Option Run) (whole : Run) → bound ≤ 4 → old.runs ≡ prefix ++ back → position ≡ length prefix → IsMaximal bound (prefix ++ r ∷ back) → length (expanded old.runs) < 2 ^ 32 → left ≡ last_run prefix → right ≡ first_run back → Joins left right whole → Gap bound position old prefix back whole
+gap bound position old prefix back r left right whole few is position_is m small left_is right_is j =
+    let e = ends prefix j.l (sym left_is ∙ j.left_is) in
     let f = first_is back j.r (sym right_is ∙ j.right_is) in
-    let parts_are : front ++ r ∷ back ≡ e.start ++ j.l ∷ r ∷ j.r ∷ f.0 =
+    let parts_are : prefix ++ r ∷ back ≡ e.start ++ j.l ∷ r ∷ j.r ∷ f.0 =
     ap (λ zs. zs ++ r ∷ back) e.is ∙ (append_assoc e.start (j.l ∷ []) (r ∷ back) ∙ ap (λ zs. e.start ++ j.l ∷ r ∷ zs) f.1) in
     let max = subst (λ rs. IsMaximal bound rs) parts_are m in
     let p = (parts bound e.start (j.l ∷ r ∷ j.r ∷ f.0) max).back_is in
@@ -114,33 +114,33 @@ gap bound place old front back r left right whole few is place_is m small left_i
       rest = f.0;
       l = j.l;
       x = j.r;
-      front_is = e.is;
+      prefix_is = e.is;
       back_is = f.1;
       is = old_is;
-      place_is = omega (arith, place_is, ap length e.is, start_len);
+      position_is = omega (arith, position_is, ap length e.is, start_len);
       whole_is = whole_same whole j.l j.r j.colour j.len;
       same = j.same;
       colour = omega (arith, j.colour, p.0, few);
       some = omega (arith, j.len, p.1);
       small = omega (arith, j.len, small, ap (λ rs. length (expanded rs)) old_is, size, length-expanded-cons j.l (j.r ∷ f.0), length-expanded-cons j.r f.0);
-      count = omega (arith, place_is, ap length e.is, start_len, ap length old_is, length-append e.start (j.l ∷ j.r ∷ f.0));
-      after = λ none. absurd (omega (arith, none, place_is, ap length e.is, start_len));
+      count = omega (arith, position_is, ap length e.is, start_len, ap length old_is, length-append e.start (j.l ∷ j.r ∷ f.0));
+      after = λ none. absurd (omega (arith, none, position_is, ap length e.is, start_len));
       maximal = without_joined bound e.start f.0 j.l r j.r (j.l.len + j.r.len) (omega (arith, p.1)) j.same max;
     }
 
-remove_next : (runs front rest : List Run) (x y : Run) (place : ℕ) → runs ≡ front ++ x ∷ y ∷ rest → place ≡ length front + 1 → remove runs place ≡ front ++ x ∷ rest
-remove_next runs front rest x y place is place_is =
-    let one : place - length front ≡ 1 = omega (arith, place_is) in
-    ap (λ rs. remove rs place) is ∙ (remove-append_right front (x ∷ y ∷ rest) (length front) place refl (omega (arith, place_is)) ∙ ap (λ k. front ++ remove (x ∷ y ∷ rest) k) one)
+remove_next : (runs prefix rest : List Run) (x y : Run) (position : ℕ) → runs ≡ prefix ++ x ∷ y ∷ rest → position ≡ length prefix + 1 → remove runs position ≡ prefix ++ x ∷ rest
+remove_next runs prefix rest x y position is position_is =
+    let one : position - length prefix ≡ 1 = omega (arith, position_is) in
+    ap (λ rs. remove rs position) is ∙ (remove-append_right prefix (x ∷ y ∷ rest) (length prefix) position refl (omega (arith, position_is)) ∙ ap (λ k. prefix ++ remove (x ∷ y ∷ rest) k) one)
 
-pub gap_closed : (bound place : ℕ) (old n1 new : Row) (front back : List Run) (whole : Run) → old.runs ≡ front ++ back → Gap bound place old front back whole → n1.runs ≡ set old.runs (place - 1) whole → new.runs ≡ remove n1.runs place → n1.room ≡ old.room → new.room ≡ n1.room → TakesOut bound old new front back
-gap_closed bound place old n1 new front back whole is g first second r1 r2 =
-    let e1 = first ∙ set_here old.runs g.start (g.x ∷ g.rest) g.l whole (place - 1) g.is (omega (arith, g.place_is)) in
-    let e2 = second ∙ remove_next n1.runs g.start g.rest whole g.x place e1 g.place_is in
+pub gap_closed : (bound position : ℕ) (old n1 new : Row) (prefix back : List Run) (whole : Run) → old.runs ≡ prefix ++ back → Gap bound position old prefix back whole → n1.runs ≡ set old.runs (position - 1) whole → new.runs ≡ remove n1.runs position → n1.room ≡ old.room → new.room ≡ n1.room → TakesOut bound old new prefix back
+gap_closed bound position old n1 new prefix back whole is g first second r1 r2 =
+    let e1 = first ∙ set_here old.runs g.start (g.x ∷ g.rest) g.l whole (position - 1) g.is (omega (arith, g.position_is)) in
+    let e2 = second ∙ remove_next n1.runs g.start g.rest whole g.x position e1 g.position_is in
     let runs_are = e2 ∙ ap (λ w. g.start ++ w ∷ g.rest) g.whole_is in
     record {
       maximal = subst (λ rs. IsMaximal bound rs) (sym runs_are) g.maximal;
-      colours = ap expanded runs_are ∙ (joined_colours g.start g.rest g.l g.x g.same ∙ (ap expanded (sym g.is ∙ is) ∙ expanded-append front back));
+      colours = ap expanded runs_are ∙ (joined_colours g.start g.rest g.l g.x g.same ∙ (ap expanded (sym g.is ∙ is) ∙ expanded-append prefix back));
       fewer = omega (arith, ap length runs_are, ap length g.is, length-append g.start (record { colour = g.l.colour; len = g.l.len + g.x.len } ∷ g.rest), length-append g.start (g.l ∷ g.x ∷ g.rest));
       room = r2 ∙ r1;
     }
@@ -150,11 +150,11 @@ last_len : (r : Run) (rs : List Run) → (last_run_from r rs).len ≤ length (ex
 last_len r [] = omega (arith, length-expanded-cons r [])
 last_len r (s ∷ rs) = omega (arith, last_len s rs, length-expanded-cons r (s ∷ rs))
 
-pub join_fits : (runs front back : List Run) (left right : Option Run) → runs ≡ front ++ back → length (expanded runs) < 2 ^ 32 → left ≡ last_run front → right ≡ first_run back → JoinFits left right
-join_fits runs front back left right is small left_is right_is =
-    subst (λ o. JoinFits o right) (sym left_is) (subst (λ o. JoinFits (last_run front) o) (sym right_is) (by_parts front back (omega (arith, small, ap (λ rs. length (expanded rs)) is))))
+pub join_fits : (runs prefix back : List Run) (left right : Option Run) → runs ≡ prefix ++ back → length (expanded runs) < 2 ^ 32 → left ≡ last_run prefix → right ≡ first_run back → JoinFits left right
+join_fits runs prefix back left right is small left_is right_is =
+    subst (λ o. JoinFits o right) (sym left_is) (subst (λ o. JoinFits (last_run prefix) o) (sym right_is) (by_parts prefix back (omega (arith, small, ap (λ rs. length (expanded rs)) is))))
   where
-    by_parts : (front back : List Run) → length (expanded (front ++ back)) < 2 ^ 32 → JoinFits (last_run front) (first_run back)
+    by_parts : (prefix back : List Run) → length (expanded (prefix ++ back)) < 2 ^ 32 → JoinFits (last_run prefix) (first_run back)
     by_parts [] [] small = tt
     by_parts [] (x ∷ back) small = tt
     by_parts (s ∷ rs) [] small = tt

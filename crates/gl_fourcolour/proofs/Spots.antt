@@ -23,105 +23,105 @@ goes_past bound start so_far at [] few m is h = tt
 goes_past bound start so_far at (r ∷ rs) few m is h =
     omega (arith, h, is, weigh-all (counts_of r), total-counted r.colour r.len (omega (arith, m.0, few)))
 
-pub spot : (bound bits at place start : ℕ) (runs : List Run) (before : Counts) (run : Option Run) → bound ≤ 4 → IsMaximal bound runs → bits ≡ 15 → IsFound bits at runs place before run → start ≡ total_of before → IsSpot runs at place start run
-spot bound bits at place start runs before run few m all found start_total =
-    let f = subst (λ b. IsFound b at runs place before run) all found in
-    let p = parts bound f.front f.back (subst (λ rs. IsMaximal bound rs) f.is m) in
-    let total = total-sum bound f.front few p.front_is in
-    let weight = weigh-all (sum_of f.front) in
+pub spot : (bound bits at position start : ℕ) (runs : List Run) (before : Counts) (run : Option Run) → bound ≤ 4 → IsMaximal bound runs → bits ≡ 15 → IsFound bits at runs position before run → start ≡ total_of before → IsSpot runs at position start run
+spot bound bits at position start runs before run few m all found start_total =
+    let f = subst (λ b. IsFound b at runs position before run) all found in
+    let p = parts bound f.prefix f.back (subst (λ rs. IsMaximal bound rs) f.is m) in
+    let total = total-sum bound f.prefix few p.prefix_is in
+    let weight = weigh-all (sum_of f.prefix) in
     let before_total = ap total_of f.before_is in
     record {
-      front = f.front;
+      prefix = f.prefix;
       back = f.back;
       is = f.is;
-      place_is = f.place_is;
+      position_is = f.position_is;
       start_is = omega (arith, start_total, before_total, total);
       run_is = f.run_is;
       reached = omega (arith, start_total, before_total, weight, f.reached);
-      passed = goes_past bound start (weigh 15 (sum_of f.front)) at f.back few p.back_is (omega (arith, start_total, before_total, weight)) f.passed;
+      passed = goes_past bound start (weigh 15 (sum_of f.prefix)) at f.back few p.back_is (omega (arith, start_total, before_total, weight)) f.passed;
     }
 
 -- the run that has a place
-pub record AtRun (runs : List Run) (at place start : ℕ) (here : Run) : Type 0 where
-  pub front : List Run
+pub record AtRun (runs : List Run) (at position start : ℕ) (here : Run) : Type 0 where
+  pub prefix : List Run
   pub rest : List Run
-  pub is : runs ≡ front ++ here ∷ rest
-  pub place_is : place ≡ length front
-  pub start_is : start ≡ length (expanded front)
+  pub is : runs ≡ prefix ++ here ∷ rest
+  pub position_is : position ≡ length prefix
+  pub start_is : start ≡ length (expanded prefix)
   pub reached : start ≤ at
   pub inside : at < start + here.len
 
-at_back : (runs front back : List Run) (at place start : ℕ) (here : Run) → runs ≡ front ++ back → place ≡ length front → start ≡ length (expanded front) → Some here ≡ first_run back → start ≤ at → GoesPast start at back → AtRun runs at place start here
-at_back runs front [] at place start here is place_is start_is run_is reached passed = absurd (cc)
-at_back runs front (r ∷ rest) at place start here is place_is start_is run_is reached passed =
+at_back : (runs prefix back : List Run) (at position start : ℕ) (here : Run) → runs ≡ prefix ++ back → position ≡ length prefix → start ≡ length (expanded prefix) → Some here ≡ first_run back → start ≤ at → GoesPast start at back → AtRun runs at position start here
+at_back runs prefix [] at position start here is position_is start_is run_is reached passed = absurd (cc)
+at_back runs prefix (r ∷ rest) at position start here is position_is start_is run_is reached passed =
     let same : r ≡ here = cc in
     record {
-      front = front;
+      prefix = prefix;
       rest = rest;
-      is = is ∙ ap (λ x. front ++ x ∷ rest) same;
-      place_is = place_is;
+      is = is ∙ ap (λ x. prefix ++ x ∷ rest) same;
+      position_is = position_is;
       start_is = start_is;
       reached = reached;
       inside = omega (arith, passed, ap (λ (x : Run). x.len) same);
     }
 
-pub at_run : (runs : List Run) (at place start : ℕ) (here : Run) → IsSpot runs at place start (Some here) → AtRun runs at place start here
-at_run runs at place start here s = at_back runs s.front s.back at place start here s.is s.place_is s.start_is s.run_is s.reached s.passed
+pub at_run : (runs : List Run) (at position start : ℕ) (here : Run) → IsSpot runs at position start (Some here) → AtRun runs at position start here
+at_run runs at position start here s = at_back runs s.prefix s.back at position start here s.is s.position_is s.start_is s.run_is s.reached s.passed
 
 -- past the last run
-none_back : (runs front back : List Run) → runs ≡ front ++ back → None ≡ first_run back → runs ≡ front
-none_back runs front [] is none = is ∙ append-nil front
-none_back runs front (r ∷ rest) is none = absurd (cc)
+pub none_back : (runs prefix back : List Run) → runs ≡ prefix ++ back → None ≡ first_run back → runs ≡ prefix
+none_back runs prefix [] is none = is ∙ append-nil prefix
+none_back runs prefix (r ∷ rest) is none = absurd (cc)
 
-pub past_end : (runs : List Run) (at place start : ℕ) → IsSpot runs at place start None → start ≡ length (expanded runs)
-past_end runs at place start s = s.start_is ∙ ap (λ rs. length (expanded rs)) (sym (none_back runs s.front s.back s.is s.run_is))
+pub past_end : (runs : List Run) (at position start : ℕ) → IsSpot runs at position start None → start ≡ length (expanded runs)
+past_end runs at position start s = s.start_is ∙ ap (λ rs. length (expanded rs)) (sym (none_back runs s.prefix s.back s.is s.run_is))
 
 -- what is known of a run among maximal ones
-pub record RunFacts (runs front rest : List Run) (here : Run) : Type 0 where
-  pub within : length front < length runs
-  pub count : length runs ≡ length front + length rest + 1
+pub record RunFacts (runs prefix rest : List Run) (here : Run) : Type 0 where
+  pub within : length prefix < length runs
+  pub count : length runs ≡ length prefix + length rest + 1
   pub colour : here.colour < 4
   pub some : 1 ≤ here.len
-  pub size : length (expanded front) + here.len + length (expanded rest) ≡ length (expanded runs)
+  pub size : length (expanded prefix) + here.len + length (expanded rest) ≡ length (expanded runs)
 
-pub run_facts : (bound : ℕ) (runs front rest : List Run) (here : Run) → bound ≤ 4 → IsMaximal bound runs → runs ≡ front ++ here ∷ rest → RunFacts runs front rest here
-run_facts bound runs front rest here few m is =
-    let p = parts bound front (here ∷ rest) (subst (λ rs. IsMaximal bound rs) is m) in
+pub run_facts : (bound : ℕ) (runs prefix rest : List Run) (here : Run) → bound ≤ 4 → IsMaximal bound runs → runs ≡ prefix ++ here ∷ rest → RunFacts runs prefix rest here
+run_facts bound runs prefix rest here few m is =
+    let p = parts bound prefix (here ∷ rest) (subst (λ rs. IsMaximal bound rs) is m) in
     let b = p.back_is in
     let len_is = ap length is in
     let size_is = ap (λ rs. length (expanded rs)) is in
     record {
-      within = omega (arith, len_is, length-append front (here ∷ rest));
-      count = omega (arith, len_is, length-append front (here ∷ rest));
+      within = omega (arith, len_is, length-append prefix (here ∷ rest));
+      count = omega (arith, len_is, length-append prefix (here ∷ rest));
       colour = omega (arith, b.0, few);
       some = b.1;
-      size = omega (arith, size_is, length-expanded-append front (here ∷ rest), length-expanded-cons here rest);
+      size = omega (arith, size_is, length-expanded-append prefix (here ∷ rest), length-expanded-cons here rest);
     }
 
 -- edits of a list that is given in parts
-pub set_here : (runs front rest : List Run) (x y : Run) (place : ℕ) → runs ≡ front ++ x ∷ rest → place ≡ length front → set runs place y ≡ front ++ y ∷ rest
-set_here runs front rest x y place is place_is =
-    ap (λ rs. set rs place y) is ∙ (ap (λ k. set (front ++ x ∷ rest) k y) place_is ∙ set-append_seam front x rest y)
+pub set_here : (runs prefix rest : List Run) (x y : Run) (position : ℕ) → runs ≡ prefix ++ x ∷ rest → position ≡ length prefix → set runs position y ≡ prefix ++ y ∷ rest
+set_here runs prefix rest x y position is position_is =
+    ap (λ rs. set rs position y) is ∙ (ap (λ k. set (prefix ++ x ∷ rest) k y) position_is ∙ set-append_seam prefix x rest y)
 
-pub insert_here : (runs front back : List Run) (y : Run) (place : ℕ) → runs ≡ front ++ back → place ≡ length front → insert runs place y ≡ front ++ y ∷ back
-insert_here runs front back y place is place_is =
-    let none : place - length front ≡ 0 = omega (arith, place_is) in
-    ap (λ rs. insert rs place y) is ∙ (insert-append_right front back (length front) place y refl (omega (arith, place_is)) ∙ ap (λ k. front ++ insert back k y) none)
+pub insert_here : (runs prefix back : List Run) (y : Run) (position : ℕ) → runs ≡ prefix ++ back → position ≡ length prefix → insert runs position y ≡ prefix ++ y ∷ back
+insert_here runs prefix back y position is position_is =
+    let none : position - length prefix ≡ 0 = omega (arith, position_is) in
+    ap (λ rs. insert rs position y) is ∙ (insert-append_right prefix back (length prefix) position y refl (omega (arith, position_is)) ∙ ap (λ k. prefix ++ insert back k y) none)
 
-pub insert_next : (runs front rest : List Run) (x y : Run) (place : ℕ) → runs ≡ front ++ x ∷ rest → place ≡ length front → insert runs (place + 1) y ≡ front ++ x ∷ y ∷ rest
-insert_next runs front rest x y place is place_is =
-    let one : place + 1 - length front ≡ 1 = omega (arith, place_is) in
-    ap (λ rs. insert rs (place + 1) y) is ∙ (insert-append_right front (x ∷ rest) (length front) (place + 1) y refl (omega (arith, place_is)) ∙ ap (λ k. front ++ insert (x ∷ rest) k y) one)
+pub insert_next : (runs prefix rest : List Run) (x y : Run) (position : ℕ) → runs ≡ prefix ++ x ∷ rest → position ≡ length prefix → insert runs (position + 1) y ≡ prefix ++ x ∷ y ∷ rest
+insert_next runs prefix rest x y position is position_is =
+    let one : position + 1 - length prefix ≡ 1 = omega (arith, position_is) in
+    ap (λ rs. insert rs (position + 1) y) is ∙ (insert-append_right prefix (x ∷ rest) (length prefix) (position + 1) y refl (omega (arith, position_is)) ∙ ap (λ k. prefix ++ insert (x ∷ rest) k y) one)
 
-pub insert_second : (runs front rest : List Run) (x y z : Run) (place : ℕ) → runs ≡ front ++ x ∷ y ∷ rest → place ≡ length front → insert runs (place + 2) z ≡ front ++ x ∷ y ∷ z ∷ rest
-insert_second runs front rest x y z place is place_is =
-    let two : place + 2 - length front ≡ 2 = omega (arith, place_is) in
-    ap (λ rs. insert rs (place + 2) z) is ∙ (insert-append_right front (x ∷ y ∷ rest) (length front) (place + 2) z refl (omega (arith, place_is)) ∙ ap (λ k. front ++ insert (x ∷ y ∷ rest) k z) two)
+pub insert_second : (runs prefix rest : List Run) (x y z : Run) (position : ℕ) → runs ≡ prefix ++ x ∷ y ∷ rest → position ≡ length prefix → insert runs (position + 2) z ≡ prefix ++ x ∷ y ∷ z ∷ rest
+insert_second runs prefix rest x y z position is position_is =
+    let two : position + 2 - length prefix ≡ 2 = omega (arith, position_is) in
+    ap (λ rs. insert rs (position + 2) z) is ∙ (insert-append_right prefix (x ∷ y ∷ rest) (length prefix) (position + 2) z refl (omega (arith, position_is)) ∙ ap (λ k. prefix ++ insert (x ∷ y ∷ rest) k z) two)
 
-pub remove_here : (runs front rest : List Run) (x : Run) (place : ℕ) → runs ≡ front ++ x ∷ rest → place ≡ length front → remove runs place ≡ front ++ rest
-remove_here runs front rest x place is place_is =
-    let none : place - length front ≡ 0 = omega (arith, place_is) in
-    ap (λ rs. remove rs place) is ∙ (remove-append_right front (x ∷ rest) (length front) place refl (omega (arith, place_is)) ∙ ap (λ k. front ++ remove (x ∷ rest) k) none)
+pub remove_here : (runs prefix rest : List Run) (x : Run) (position : ℕ) → runs ≡ prefix ++ x ∷ rest → position ≡ length prefix → remove runs position ≡ prefix ++ rest
+remove_here runs prefix rest x position is position_is =
+    let none : position - length prefix ≡ 0 = omega (arith, position_is) in
+    ap (λ rs. remove rs position) is ∙ (remove-append_right prefix (x ∷ rest) (length prefix) position refl (omega (arith, position_is)) ∙ ap (λ k. prefix ++ remove (x ∷ rest) k) none)
 
 -- a run that has the colour
 pub record HasColour (run : Option Run) (colour : ℕ) (here : Run) : Type 0 where
@@ -160,15 +160,15 @@ differs_first colour [] none = tt
 differs_first colour (r ∷ rest) none = has_none (Some r) colour r none refl
 
 -- the last run of a list
-pub record Ends (front : List Run) (last : Run) : Type 0 where
+pub record Ends (prefix : List Run) (last : Run) : Type 0 where
   pub start : List Run
-  pub is : front ≡ start ++ last ∷ []
+  pub is : prefix ≡ start ++ last ∷ []
 
 ends_from : (r : Run) (rs : List Run) → Ends (r ∷ rs) (last_run_from r rs)
 ends_from r [] = record { start = []; is = refl }
 ends_from r (s ∷ rs) = let e = ends_from s rs in record { start = r ∷ e.start; is = ap (λ xs. r ∷ xs) e.is }
 
-pub ends : (front : List Run) (last : Run) → last_run front ≡ Some last → Ends front last
+pub ends : (prefix : List Run) (last : Run) → last_run prefix ≡ Some last → Ends prefix last
 ends [] last is = absurd (cc)
 ends (r ∷ rs) last is = let one : last_run_from r rs ≡ last = cc in subst (λ x. Ends (r ∷ rs) x) one (ends_from r rs)
 
@@ -177,7 +177,7 @@ last_colour r [] = refl
 last_colour r (s ∷ rs) = last_colour s rs
 
 -- no last run has the colour
-pub meets_last : (colour n : ℕ) (front : List Run) → None ≡ run_if (last_run front) colour → Meets front (record { colour = colour; len = n } ∷ [])
+pub meets_last : (colour n : ℕ) (prefix : List Run) → None ≡ run_if (last_run prefix) colour → Meets prefix (record { colour = colour; len = n } ∷ [])
 meets_last colour n [] none = tt
 meets_last colour n (r ∷ rs) none =
     let other = has_none (Some (last_run_from r rs)) colour (last_run_from r rs) none refl in
@@ -223,18 +223,18 @@ apart l r none =
     ]
 
 -- neighbours that are not joined
-pub meets_gap : (front back : List Run) → None ≡ joined (last_run front) (first_run back) → Meets front back
+pub meets_gap : (prefix back : List Run) → None ≡ joined (last_run prefix) (first_run back) → Meets prefix back
 meets_gap [] back none = tt
 meets_gap (r ∷ rs) [] none = tt
 meets_gap (r ∷ rs) (x ∷ back) none = λ same. apart (last_run_from r rs) x none (same ∙ sym (last_colour r rs))
 
-pub get_first : (runs front back : List Run) (place : ℕ) → runs ≡ front ++ back → place ≡ length front → slice_get runs place ≡ first_run back
-get_first runs front back place is place_is = ap (λ rs. slice_get rs place) is ∙ (ap (λ k. slice_get (front ++ back) k) place_is ∙ at_seam front back)
+pub get_first : (runs prefix back : List Run) (position : ℕ) → runs ≡ prefix ++ back → position ≡ length prefix → slice_get runs position ≡ first_run back
+get_first runs prefix back position is position_is = ap (λ rs. slice_get rs position) is ∙ (ap (λ k. slice_get (prefix ++ back) k) position_is ∙ at_seam prefix back)
   where
-    at_seam : (front back : List Run) → slice_get (front ++ back) (length front) ≡ first_run back
+    at_seam : (prefix back : List Run) → slice_get (prefix ++ back) (length prefix) ≡ first_run back
     at_seam [] [] = refl
     at_seam [] (x ∷ back) = refl
-    at_seam (x ∷ front) back = at_seam front back
+    at_seam (x ∷ prefix) back = at_seam prefix back
 
 pub first_is : (back : List Run) (r : Run) → first_run back ≡ Some r → (rest : List Run) × (back ≡ r ∷ rest)
 first_is [] r is = absurd (cc)

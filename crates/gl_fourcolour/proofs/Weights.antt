@@ -80,9 +80,9 @@ AreRuns-append : (xs ys : List (ℕ × Counts)) → AreRuns xs → AreRuns ys �
 AreRuns-append [] ys a b = b
 AreRuns-append (x ∷ xs) ys a b = (a.0, AreRuns-append xs ys a.1 b)
 
-pub AreRuns-front : (xs ys : List (ℕ × Counts)) → AreRuns (xs ++ ys) → AreRuns xs
-AreRuns-front [] ys a = tt
-AreRuns-front (x ∷ xs) ys a = (a.0, AreRuns-front xs ys a.1)
+pub AreRuns-prefix : (xs ys : List (ℕ × Counts)) → AreRuns (xs ++ ys) → AreRuns xs
+AreRuns-prefix [] ys a = tt
+AreRuns-prefix (x ∷ xs) ys a = (a.0, AreRuns-prefix xs ys a.1)
 
 pub AreRuns-back : (xs ys : List (ℕ × Counts)) → AreRuns (xs ++ ys) → AreRuns ys
 AreRuns-back [] ys a = a
@@ -91,39 +91,39 @@ AreRuns-back (x ∷ xs) ys a = AreRuns-back xs ys a.1
 pub counted : (r : Run) → r.colour < 4 → 1 ≤ r.len → counts_of r ≡ counts_of (run_of (counts_of r))
 counted r below some = ap counts_of (sym (run-counted r below some))
 
-pub AreRuns-insert : (es : List (ℕ × Counts)) (place slot : ℕ) (r : Run) → r.colour < 4 → 1 ≤ r.len → AreRuns es → AreRuns (insert es place (slot, counts_of r))
+pub AreRuns-insert : (es : List (ℕ × Counts)) (position slot : ℕ) (r : Run) → r.colour < 4 → 1 ≤ r.len → AreRuns es → AreRuns (insert es position (slot, counts_of r))
 AreRuns-insert [] zero slot r below some a = (counted r below some, tt)
-AreRuns-insert [] (suc place) slot r below some a = (counted r below some, tt)
+AreRuns-insert [] (suc position) slot r below some a = (counted r below some, tt)
 AreRuns-insert (e ∷ es) zero slot r below some a = (counted r below some, a)
-AreRuns-insert (e ∷ es) (suc place) slot r below some a = (a.0, AreRuns-insert es place slot r below some a.1)
+AreRuns-insert (e ∷ es) (suc position) slot r below some a = (a.0, AreRuns-insert es position slot r below some a.1)
 
-pub AreRuns-set : (es : List (ℕ × Counts)) (place : ℕ) (r : Run) → r.colour < 4 → 1 ≤ r.len → AreRuns es → AreRuns (with_own es place (counts_of r))
-AreRuns-set [] place r below some a = tt
+pub AreRuns-set : (es : List (ℕ × Counts)) (position : ℕ) (r : Run) → r.colour < 4 → 1 ≤ r.len → AreRuns es → AreRuns (with_own es position (counts_of r))
+AreRuns-set [] position r below some a = tt
 AreRuns-set (e ∷ es) zero r below some a = (counted r below some, a.1)
-AreRuns-set (e ∷ es) (suc place) r below some a = (a.0, AreRuns-set es place r below some a.1)
+AreRuns-set (e ∷ es) (suc position) r below some a = (a.0, AreRuns-set es position r below some a.1)
 
-pub AreRuns-remove : (es : List (ℕ × Counts)) (place : ℕ) → AreRuns es → AreRuns (remove es place)
+pub AreRuns-remove : (es : List (ℕ × Counts)) (position : ℕ) → AreRuns es → AreRuns (remove es position)
 AreRuns-remove [] zero a = tt
-AreRuns-remove [] (suc place) a = tt
+AreRuns-remove [] (suc position) a = tt
 AreRuns-remove (e ∷ es) zero a = a.1
-AreRuns-remove (e ∷ es) (suc place) a = (a.0, AreRuns-remove es place a.1)
+AreRuns-remove (e ∷ es) (suc position) a = (a.0, AreRuns-remove es position a.1)
 
-pub runs-insert : (es : List (ℕ × Counts)) (place slot : ℕ) (r : Run) → r.colour < 4 → 1 ≤ r.len → runs_of (insert es place (slot, counts_of r)) ≡ insert (runs_of es) place r
+pub runs-insert : (es : List (ℕ × Counts)) (position slot : ℕ) (r : Run) → r.colour < 4 → 1 ≤ r.len → runs_of (insert es position (slot, counts_of r)) ≡ insert (runs_of es) position r
 runs-insert [] zero slot r below some = ap (λ x. x ∷ []) (run-counted r below some)
-runs-insert [] (suc place) slot r below some = ap (λ x. x ∷ []) (run-counted r below some)
+runs-insert [] (suc position) slot r below some = ap (λ x. x ∷ []) (run-counted r below some)
 runs-insert (e ∷ es) zero slot r below some = ap (λ x. x ∷ runs_of (e ∷ es)) (run-counted r below some)
-runs-insert (e ∷ es) (suc place) slot r below some = ap (λ xs. run_of e.1 ∷ xs) (runs-insert es place slot r below some)
+runs-insert (e ∷ es) (suc position) slot r below some = ap (λ xs. run_of e.1 ∷ xs) (runs-insert es position slot r below some)
 
-pub runs-set : (es : List (ℕ × Counts)) (place : ℕ) (r : Run) → r.colour < 4 → 1 ≤ r.len → runs_of (with_own es place (counts_of r)) ≡ set (runs_of es) place r
-runs-set [] place r below some = refl
+pub runs-set : (es : List (ℕ × Counts)) (position : ℕ) (r : Run) → r.colour < 4 → 1 ≤ r.len → runs_of (with_own es position (counts_of r)) ≡ set (runs_of es) position r
+runs-set [] position r below some = refl
 runs-set (e ∷ es) zero r below some = ap (λ x. x ∷ runs_of es) (run-counted r below some)
-runs-set (e ∷ es) (suc place) r below some = ap (λ xs. run_of e.1 ∷ xs) (runs-set es place r below some)
+runs-set (e ∷ es) (suc position) r below some = ap (λ xs. run_of e.1 ∷ xs) (runs-set es position r below some)
 
-pub runs-remove : (es : List (ℕ × Counts)) (place : ℕ) → runs_of (remove es place) ≡ remove (runs_of es) place
+pub runs-remove : (es : List (ℕ × Counts)) (position : ℕ) → runs_of (remove es position) ≡ remove (runs_of es) position
 runs-remove [] zero = refl
-runs-remove [] (suc place) = refl
+runs-remove [] (suc position) = refl
 runs-remove (e ∷ es) zero = refl
-runs-remove (e ∷ es) (suc place) = ap (λ xs. run_of e.1 ∷ xs) (runs-remove es place)
+runs-remove (e ∷ es) (suc position) = ap (λ xs. run_of e.1 ∷ xs) (runs-remove es position)
 
 pub length-runs_of : (es : List (ℕ × Counts)) → length (runs_of es) ≡ length es
 length-runs_of [] = refl
@@ -133,10 +133,10 @@ pub runs-append : (xs ys : List (ℕ × Counts)) → runs_of (xs ++ ys) ≡ runs
 runs-append [] ys = refl
 runs-append (x ∷ xs) ys = ap (λ zs. run_of x.1 ∷ zs) (runs-append xs ys)
 
-pub runs-get : (es : List (ℕ × Counts)) (place : ℕ) → slice_get (runs_of es) place ≡ option_map (λ e. run_of e.1) (slice_get es place)
-runs-get [] place = refl
+pub runs-get : (es : List (ℕ × Counts)) (position : ℕ) → slice_get (runs_of es) position ≡ option_map (λ e. run_of e.1) (slice_get es position)
+runs-get [] position = refl
 runs-get (e ∷ es) zero = refl
-runs-get (e ∷ es) (suc place) = runs-get es place
+runs-get (e ∷ es) (suc position) = runs-get es position
 
 first-own : (es : List (ℕ × Counts)) → option_map run_of (first_own es) ≡ first_run (runs_of es)
 first-own [] = refl
@@ -147,29 +147,29 @@ outweighs mask so_far k [] a h = tt
 outweighs mask so_far k (e ∷ es) a h = omega (arith, h, ap (λ c. weigh mask c) a.0)
 
 -- what a search in the tree finds among the runs
-pub found : (mask k place : ℕ) (es : List (ℕ × Counts)) (before : Counts) (own : Option Counts) (run : Option Run) → AreRuns es → IsSought counts_sums (λ c. weigh mask c) es k place before own → run ≡ option_map run_of own → IsFound mask k (runs_of es) place before run
-found mask k place es before own run a s is =
-    let both : AreRuns (s.front ++ s.back) = subst (λ xs. AreRuns xs) s.is a in
-    let front_is = sum-entries s.front (AreRuns-front s.front s.back both) in
-    let weight_is : weigh mask (list_sum counts_sums s.front) ≡ weigh mask (sum_of (runs_of s.front)) = ap (λ c. weigh mask c) front_is in
+pub found : (mask k position : ℕ) (es : List (ℕ × Counts)) (before : Counts) (own : Option Counts) (run : Option Run) → AreRuns es → IsSought counts_sums (λ c. weigh mask c) es k position before own → run ≡ option_map run_of own → IsFound mask k (runs_of es) position before run
+found mask k position es before own run a s is =
+    let both : AreRuns (s.prefix ++ s.back) = subst (λ xs. AreRuns xs) s.is a in
+    let prefix_is = sum-entries s.prefix (AreRuns-prefix s.prefix s.back both) in
+    let weight_is : weigh mask (list_sum counts_sums s.prefix) ≡ weigh mask (sum_of (runs_of s.prefix)) = ap (λ c. weigh mask c) prefix_is in
     record {
-      front = runs_of s.front;
+      prefix = runs_of s.prefix;
       back = runs_of s.back;
-      is = ap (λ xs. runs_of xs) s.is ∙ runs-append s.front s.back;
-      place_is = s.place_is ∙ sym (length-runs_of s.front);
-      before_is = s.before_is ∙ front_is;
+      is = ap (λ xs. runs_of xs) s.is ∙ runs-append s.prefix s.back;
+      position_is = s.position_is ∙ sym (length-runs_of s.prefix);
+      before_is = s.before_is ∙ prefix_is;
       run_is = is ∙ (ap (λ o. option_map run_of o) s.own_is ∙ first-own s.back);
       reached = omega (arith, s.reached, weight_is);
-      passed = subst (λ n. Outweighs mask n k (runs_of s.back)) weight_is (outweighs mask _ k s.back (AreRuns-back s.front s.back both) s.passed);
+      passed = subst (λ n. Outweighs mask n k (runs_of s.back)) weight_is (outweighs mask _ k s.back (AreRuns-back s.prefix s.back both) s.passed);
     }
 
 -- the run before a place
-pub last-get : (front back : List Run) (r : Run) → slice_get (r ∷ front ++ back) (length front) ≡ Some (last_run_from r front)
+pub last-get : (prefix back : List Run) (r : Run) → slice_get (r ∷ prefix ++ back) (length prefix) ≡ Some (last_run_from r prefix)
 last-get [] back r = refl
-last-get (x ∷ front) back r = last-get front back x
+last-get (x ∷ prefix) back r = last-get prefix back x
 
-pub before_is : (runs front back : List Run) (place : ℕ) (result : Option Run) → runs ≡ front ++ back → place ≡ length front → place ≢ 0 → result ≡ slice_get runs (place - 1) → result ≡ last_run front
-before_is runs [] back place result is place_is some got = absurd (some place_is)
-before_is runs (r ∷ front) back place result is place_is some got =
-    let index : place - 1 ≡ length front = omega (arith, place_is) in
-    got ∙ (ap (λ xs. slice_get xs (place - 1)) is ∙ (ap (λ k. slice_get (r ∷ front ++ back) k) index ∙ last-get front back r))
+pub before_is : (runs prefix back : List Run) (position : ℕ) (result : Option Run) → runs ≡ prefix ++ back → position ≡ length prefix → position ≢ 0 → result ≡ slice_get runs (position - 1) → result ≡ last_run prefix
+before_is runs [] back position result is position_is some got = absurd (some position_is)
+before_is runs (r ∷ prefix) back position result is position_is some got =
+    let index : position - 1 ≡ length prefix = omega (arith, position_is) in
+    got ∙ (ap (λ xs. slice_get xs (position - 1)) is ∙ (ap (λ k. slice_get (r ∷ prefix ++ back) k) index ∙ last-get prefix back r))

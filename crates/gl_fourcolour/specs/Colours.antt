@@ -37,10 +37,10 @@ count_among mask [] = 0
 count_among mask (x ∷ xs) = cond (is_among mask x) 1 0 + count_among mask xs
 
 -- this place has a colour of the set, and so have k places before it
-pub record IsKth (mask k : ℕ) (xs : List ℕ) (place : ℕ) : Type 0 where
-  pub in_range : place < length xs
-  pub among : IsTrue (is_among mask (slice_index xs place))
-  pub before : count_among mask (take place xs) ≡ k
+pub record IsKth (mask k : ℕ) (xs : List ℕ) (position : ℕ) : Type 0 where
+  pub in_range : position < length xs
+  pub among : IsTrue (is_among mask (slice_index xs position))
+  pub before : count_among mask (take position xs) ≡ k
 
 -- how many more edits fit with no memory, since an edit makes at most two runs more
 abbrev pub spare : Colours → ℕ

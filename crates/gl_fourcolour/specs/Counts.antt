@@ -9,7 +9,14 @@ abbrev pub no_counts : Counts
 no_counts = record { first = 0; second = 0; third = 0; fourth = 0 }
 
 abbrev pub plus_counts : Counts → Counts → Counts
-plus_counts x y = record { first = x.first + y.first; second = x.second + y.second; third = x.third + y.third; fourth = x.fourth + y.fourth }
+plus_counts x y =
+    record {
+      first = x.first + y.first;
+      second = x.second + y.second;
+      third =
+          x.third + y.third;
+      fourth = x.fourth + y.fourth;
+    }
 
 abbrev pub total_of : Counts → ℕ
 total_of c = c.first + c.second + c.third + c.fourth
@@ -19,7 +26,14 @@ fits_counts c = nat_lt (total_of c) 4294967296
 
 -- a run, counted
 abbrev pub counts_of : Run → Counts
-counts_of r = record { first = cond (r.colour == 0) r.len 0; second = cond (r.colour == 1) r.len 0; third = cond (r.colour == 2) r.len 0; fourth = cond (r.colour == 3) r.len 0 }
+counts_of r =
+    record {
+      first = cond (r.colour == 0) r.len 0;
+      second = cond (r.colour == 1) r.len 0;
+      third =
+          cond (r.colour == 2) r.len 0;
+      fourth = cond (r.colour == 3) r.len 0;
+    }
 
 -- the colour of the places that were counted, if they have one colour
 abbrev pub colour_of : Counts → ℕ
@@ -35,7 +49,9 @@ part_of mask colour n = cond (is_among mask colour) n 0
 
 -- how many of the places that were counted have a colour of the set
 unfoldable pub weigh : ℕ → Counts → ℕ
-weigh mask c = part_of mask 0 c.first + part_of mask 1 c.second + part_of mask 2 c.third + part_of mask 3 c.fourth
+weigh mask c =
+    part_of mask 0 c.first + part_of mask 1 c.second + part_of mask 2 c.third
+    + part_of mask 3 c.fourth
 
 -- all runs, counted
 abbrev pub sum_of : List Run → Counts
@@ -57,12 +73,13 @@ Outweighs mask so_far k [] = Unit {0}
 Outweighs mask so_far k (r ∷ rs) = k < so_far + weigh mask (counts_of r)
 
 -- the runs before this place weigh no more than k, and with the run there they weigh more
-pub record IsFound (mask k : ℕ) (runs : List Run) (place : ℕ) (before : Counts) (run : Option Run) : Type 0 where
-  pub front : List Run
+pub record IsFound (mask k : ℕ) (runs : List Run) (position : ℕ) (before : Counts)
+    (run : Option Run) : Type 0 where
+  pub prefix : List Run
   pub back : List Run
-  pub is : runs ≡ front ++ back
-  pub place_is : place ≡ length front
-  pub before_is : before ≡ sum_of front
+  pub is : runs ≡ prefix ++ back
+  pub position_is : position ≡ length prefix
+  pub before_is : before ≡ sum_of prefix
   pub run_is : run ≡ first_run back
-  pub reached : weigh mask (sum_of front) ≤ k
-  pub passed : Outweighs mask (weigh mask (sum_of front)) k back
+  pub reached : weigh mask (sum_of prefix) ≤ k
+  pub passed : Outweighs mask (weigh mask (sum_of prefix)) k back

@@ -5,40 +5,40 @@ use Rattle.gl_fourcolour.specs.Rows.{Row, expanded, Differs, IsMaximal}
 use Rattle.gl_fourcolour.specs.declared.run.Run.{Run}
 
 -- a place between two runs, of which the second one has another colour
-pub record SomeBetween (runs : List Run) (at place colour : ℕ) : Type 0 where
-  pub front : List Run
+pub record SomeBetween (runs : List Run) (at position colour : ℕ) : Type 0 where
+  pub prefix : List Run
   pub back : List Run
-  pub is : runs ≡ front ++ back
-  pub place_is : place ≡ length front
-  pub at_is : at ≡ length (expanded front)
+  pub is : runs ≡ prefix ++ back
+  pub position_is : position ≡ length prefix
+  pub at_is : at ≡ length (expanded prefix)
   pub differs : Differs colour back
 
 -- maximal runs, of which one stands at this place
-pub record SomeRun (bound : ℕ) (runs : List Run) (place : ℕ) : Type 0 where
-  pub front : List Run
+pub record SomeRun (bound : ℕ) (runs : List Run) (position : ℕ) : Type 0 where
+  pub prefix : List Run
   pub run : Run
   pub back : List Run
-  pub is : runs ≡ front ++ run ∷ back
-  pub place_is : place ≡ length front
+  pub is : runs ≡ prefix ++ run ∷ back
+  pub position_is : position ≡ length prefix
   pub few_colours : bound ≤ 4
   pub maximal : IsMaximal bound runs
   pub small : length (expanded runs) < 2 ^ 32
 
 -- runs that were maximal before one at this place was taken out
-pub record SomeGap (bound : ℕ) (runs : List Run) (place : ℕ) : Type 0 where
-  pub front : List Run
+pub record SomeGap (bound : ℕ) (runs : List Run) (position : ℕ) : Type 0 where
+  pub prefix : List Run
   pub run : Run
   pub back : List Run
-  pub is : runs ≡ front ++ back
-  pub place_is : place ≡ length front
+  pub is : runs ≡ prefix ++ back
+  pub position_is : position ≡ length prefix
   pub few_colours : bound ≤ 4
-  pub maximal : IsMaximal bound (front ++ run ∷ back)
+  pub maximal : IsMaximal bound (prefix ++ run ∷ back)
   pub small : length (expanded runs) < 2 ^ 32
 
--- the runs stand for the colours before and behind the one that was taken out
-pub record TakesOut (bound : ℕ) (old new : Row) (front back : List Run) : Type 0 where
+-- the runs stand for the colours before and after the one that was taken out
+pub record TakesOut (bound : ℕ) (old new : Row) (prefix back : List Run) : Type 0 where
   pub maximal : IsMaximal bound new.runs
-  pub colours : expanded new.runs ≡ expanded front ++ expanded back
+  pub colours : expanded new.runs ≡ expanded prefix ++ expanded back
   pub fewer : length new.runs ≤ length old.runs
   pub room : new.room ≡ old.room
 

@@ -21,7 +21,8 @@ Differs colour (r ∷ rs) = r.colour ≢ colour
 -- no run is empty, no two neighbours have one colour, and all colours are below a bound
 abbrev pub IsMaximal : ℕ → List Run → Type 0
 IsMaximal bound [] = Unit {0}
-IsMaximal bound (r ∷ rs) = (r.colour < bound) × (1 ≤ r.len) × Differs r.colour rs × IsMaximal bound rs
+IsMaximal bound (r ∷ rs) =
+    (r.colour < bound) × (1 ≤ r.len) × Differs r.colour rs × IsMaximal bound rs
 
 -- the colour of the last run, after a run of this colour
 abbrev pub last_from : ℕ → List Run → ℕ
@@ -51,12 +52,12 @@ GoesPast start at [] = Unit {0}
 GoesPast start at (r ∷ rs) = at < start + r.len
 
 -- where the run stands that has a place of the list of colours, and where it starts
-pub record IsSpot (runs : List Run) (at place start : ℕ) (run : Option Run) : Type 0 where
-  pub front : List Run
+pub record IsSpot (runs : List Run) (at position start : ℕ) (run : Option Run) : Type 0 where
+  pub prefix : List Run
   pub back : List Run
-  pub is : runs ≡ front ++ back
-  pub place_is : place ≡ length front
-  pub start_is : start ≡ length (expanded front)
+  pub is : runs ≡ prefix ++ back
+  pub position_is : position ≡ length prefix
+  pub start_is : start ≡ length (expanded prefix)
   pub run_is : run ≡ first_run back
   pub reached : start ≤ at
   pub passed : GoesPast start at back
@@ -68,7 +69,8 @@ run_if (Some r) colour = cond (r.colour == colour) (Some r) None
 
 -- the one run that two neighbours of one colour make
 abbrev pub joined : Option Run → Option Run → Option Run
-joined (Some l) (Some r) = cond (l.colour == r.colour) (Some (record { colour = l.colour; len = l.len + r.len })) None
+joined (Some l) (Some r) =
+    cond (l.colour == r.colour) (Some (record { colour = l.colour; len = l.len + r.len })) None
 joined _ _ = None
 
 abbrev pub JoinFits : Option Run → Option Run → Type 0
@@ -83,7 +85,8 @@ pub record CanPut (bound : ℕ) (row : Row) (at : ℕ) (run : Run) : Type 0 wher
   pub some : 1 ≤ run.len
   pub in_range : at ≤ length (expanded row.runs)
   pub small : length (expanded row.runs) + run.len < 2 ^ 32
-  pub room : (length row.runs + 2 ≤ row.room) ⊎ (run_count (inserted (expanded row.runs) at run.colour run.len) ≤ row.room)
+  pub room : (length row.runs + 2
+      ≤ row.room) ⊎ (run_count (inserted (expanded row.runs) at run.colour run.len) ≤ row.room)
 
 -- the runs stand for the colours with the run put in
 pub record Puts (bound : ℕ) (old new : Row) (at : ℕ) (run : Run) : Type 0 where

@@ -40,7 +40,8 @@ pub(crate) fn rank<const C: usize>(row: &RunRow, at: usize, mask: Mask) -> usize
 /// The place of the k-th place, counted from zero, that has a colour of the set.
 pub(crate) fn select<const C: usize>(row: &RunRow, k: usize, mask: Mask) -> Option<usize>
     requires { IsKept C row.now }
-    ensures { MatchOption result (count_among mask.bits (expanded row.now.runs) ≤ k) (IsKth mask.bits k (expanded row.now.runs)) }
+    ensures { MatchOption result (count_among mask.bits (expanded row.now.runs) ≤ k)
+        (IsKth mask.bits k (expanded row.now.runs)) }
 {
     let found = row.find(mask, k);
     match found.run {

@@ -13,7 +13,7 @@ use crate::run::{Run, joined, run_if};
 #[derive(Clone, Copy)]
 pub(crate) struct Spot {
     /// The place of its run in the list of runs, or their number past the last place.
-    pub(crate) place: usize,
+    pub(crate) position: usize,
     /// The first place of that run.
     pub(crate) start: usize,
     pub(crate) run: Option<Run>,
@@ -24,11 +24,11 @@ pub(crate) fn locate<const C: usize>(row: &RunRow, at: usize) -> Spot
     requires few_colours { C ≤ 4 }
     requires maximal { IsMaximal C row.now.runs }
     requires small { length (expanded row.now.runs) < 2 ^ 32 }
-    ensures { IsSpot row.now.runs at result.place result.start result.run }
+    ensures { IsSpot row.now.runs at result.position result.start result.run }
 {
     let found = row.find(Mask::all(), at);
     Spot {
-        place: found.place,
+        position: found.position,
         start: total(found.before),
         run: found.run,
     }
@@ -52,10 +52,10 @@ pub(crate) fn put<const C: usize>(row: &mut RunRow, at: usize, run: Run)
     }
 }
 
-// Puts a run in behind the first place of another: that one grows, or is split.
+// Puts a run in after the first place of another: that one grows, or is split.
 fn put_within<const C: usize>(row: &mut RunRow, at: usize, spot: Spot, here: Run, run: Run)
     requires can { CanPut C row.old at run }
-    requires spot { IsSpot row.old.runs at spot.place spot.start (Some here) }
+    requires spot { IsSpot row.old.runs at spot.position spot.start (Some here) }
     requires within { spot.start < at }
     ensures { Puts C row.old row.new at run }
 {
@@ -64,7 +64,7 @@ fn put_within<const C: usize>(row: &mut RunRow, at: usize, spot: Spot, here: Run
             colour: here.colour,
             len: here.len + run.len,
         };
-        row.set(spot.place, whole);
+        row.set(spot.position, whole);
         return;
     }
     let left = Run {
@@ -75,44 +75,44 @@ fn put_within<const C: usize>(row: &mut RunRow, at: usize, spot: Spot, here: Run
         colour: here.colour,
         len: here.len - left.len,
     };
-    row.set(spot.place, left);
-    row.insert(spot.place + 1, run);
-    row.insert(spot.place + 2, right);
+    row.set(spot.position, left);
+    row.insert(spot.position + 1, run);
+    row.insert(spot.position + 2, right);
 }
 
 // Puts a run in where another starts, or past the last: that one grows if it has the colour.
 fn put_between<const C: usize>(row: &mut RunRow, at: usize, spot: Spot, run: Run)
     requires can { CanPut C row.old at run }
-    requires spot { IsSpot row.old.runs at spot.place spot.start spot.run }
+    requires spot { IsSpot row.old.runs at spot.position spot.start spot.run }
     requires starts { spot.start ≡ at }
     ensures { Puts C row.old row.new at run }
 {
     let Some(here) = run_if(spot.run, run.colour) else {
-        put_after::<C>(row, at, spot.place, run);
+        put_after::<C>(row, at, spot.position, run);
         return;
     };
     let whole = Run {
         colour: here.colour,
         len: here.len + run.len,
     };
-    row.set(spot.place, whole);
+    row.set(spot.position, whole);
 }
 
 // Puts a run in before one of another colour: the run before it grows if it has the colour.
-fn put_after<const C: usize>(row: &mut RunRow, at: usize, place: usize, run: Run)
+fn put_after<const C: usize>(row: &mut RunRow, at: usize, position: usize, run: Run)
     requires can { CanPut C row.old at run }
-    requires between { SomeBetween row.old.runs at place run.colour }
+    requires between { SomeBetween row.old.runs at position run.colour }
     ensures { Puts C row.old row.new at run }
 {
-    let Some(before) = run_if(row.before(place), run.colour) else {
-        row.insert(place, run);
+    let Some(before) = run_if(row.before(position), run.colour) else {
+        row.insert(position, run);
         return;
     };
     let whole = Run {
         colour: before.colour,
         len: before.len + run.len,
     };
-    row.set(place - 1, whole);
+    row.set(position - 1, whole);
 }
 
 /// Takes `n` places out.
@@ -145,7 +145,7 @@ fn cut<const C: usize>(row: &mut RunRow, at: usize, n: usize) -> usize
 fn cut_run<const C: usize>(row: &mut RunRow, at: usize, spot: Spot, here: Run, n: usize) -> usize
     requires can { CanCut C row.old at n }
     requires some { 1 ≤ n }
-    requires spot { IsSpot row.old.runs at spot.place spot.start (Some here) }
+    requires spot { IsSpot row.old.runs at spot.position spot.start (Some here) }
     ensures some { 1 ≤ result }
     ensures few { result ≤ n }
     ensures cuts { Cuts C row.old row.new at result }
@@ -156,30 +156,33 @@ fn cut_run<const C: usize>(row: &mut RunRow, at: usize, spot: Spot, here: Run, n
             colour: here.colour,
             len: here.len - taken,
         };
-        row.set(spot.place, shorter);
+        row.set(spot.position, shorter);
         return taken;
     }
-    take_out::<C>(row, spot.place);
+    take_out::<C>(row, spot.position);
     taken
 }
 
 // Takes a whole run out, and makes its neighbours one run if they have one colour.
-fn take_out<const C: usize>(row: &mut RunRow, place: usize)
-    requires { SomeRun C row.old.runs place }
-    ensures { (front back : List Run) (r : Run) → row.old.runs ≡ front ++ r ∷ back → place ≡ length front → TakesOut C row.old row.new front back }
+fn take_out<const C: usize>(row: &mut RunRow, position: usize)
+    requires { SomeRun C row.old.runs position }
+    ensures { (prefix back : List Run) (r : Run) → row.old.runs ≡ prefix ++ r ∷ back
+        → position ≡ length prefix → TakesOut C row.old row.new prefix back }
 {
-    row.remove(place);
-    close_gap::<C>(row, place);
+    row.remove(position);
+    close_gap::<C>(row, position);
 }
 
-// Makes the runs before and behind a gap one run if they have one colour.
-fn close_gap<const C: usize>(row: &mut RunRow, place: usize)
-    requires { SomeGap C row.old.runs place }
-    ensures { (front back : List Run) (r : Run) → row.old.runs ≡ front ++ back → IsMaximal C (front ++ r ∷ back) → place ≡ length front → TakesOut C row.old row.new front back }
+// Makes the runs before and after a gap one run if they have one colour.
+fn close_gap<const C: usize>(row: &mut RunRow, position: usize)
+    requires { SomeGap C row.old.runs position }
+    ensures { (prefix back : List Run) (r : Run) → row.old.runs ≡ prefix ++ back
+        → IsMaximal C (prefix ++ r ∷ back) → position ≡ length prefix
+        → TakesOut C row.old row.new prefix back }
 {
-    let Some(whole) = joined(row.before(place), row.get(place)) else {
+    let Some(whole) = joined(row.before(position), row.get(position)) else {
         return;
     };
-    row.set(place - 1, whole);
-    row.remove(place);
+    row.set(position - 1, whole);
+    row.remove(position);
 }

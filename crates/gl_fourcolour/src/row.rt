@@ -31,7 +31,7 @@ impl Model for RunRow {
 #[derive(Clone, Copy)]
 pub(crate) struct Found {
     /// The place of the run in the list of runs, or their number where none was found.
-    pub(crate) place: usize,
+    pub(crate) position: usize,
     /// The runs before it, counted.
     pub(crate) before: Counts,
     pub(crate) run: Option<Run>,
@@ -82,7 +82,7 @@ impl RunRow {
     }
 
     /// How many places the runs have.
-    pub(crate) fn places(&self) -> usize
+    pub(crate) fn positions(&self) -> usize
         requires { total_of (sum_of self.now.runs) < 2 ^ 32 }
         ensures { result ≡ total_of (sum_of self.now.runs) }
     {
@@ -98,30 +98,31 @@ impl RunRow {
     }
 
     /// The run at a place of the list of runs.
-    pub(crate) fn get(&self, place: usize) -> Option<Run>
-        ensures { result ≡ slice_get self.now.runs place }
+    pub(crate) fn get(&self, position: usize) -> Option<Run>
+        ensures { result ≡ slice_get self.now.runs position }
     {
-        entry_run(self.tree.get(place))
+        entry_run(self.tree.get(position))
     }
 
     /// The run before a place of the list of runs.
-    pub(crate) fn before(&self, place: usize) -> Option<Run>
-        ensures { (front back : List Run) → self.now.runs ≡ front ++ back → place ≡ length front → result ≡ last_run front }
+    pub(crate) fn before(&self, position: usize) -> Option<Run>
+        ensures { (prefix back : List Run) → self.now.runs ≡ prefix ++ back
+            → position ≡ length prefix → result ≡ last_run prefix }
     {
-        if place == 0 {
+        if position == 0 {
             return None;
         }
-        self.get(place - 1)
+        self.get(position - 1)
     }
 
     /// The first run with which more than `k` places have a colour of the set.
     pub(crate) fn find(&self, mask: Mask, k: usize) -> Found
         requires { total_of (sum_of self.now.runs) < 2 ^ 32 }
-        ensures { IsFound mask.bits k self.now.runs result.place result.before result.run }
+        ensures { IsFound mask.bits k self.now.runs result.position result.before result.run }
     {
         let sought = self.tree.seek(mask, k);
         Found {
-            place: sought.place,
+            position: sought.position,
             before: sought.before,
             run: run_from(sought.own),
         }
@@ -137,37 +138,37 @@ impl RunRow {
     }
 
     /// Puts a run in at a place of the list of runs, in room that was reserved.
-    pub(crate) fn insert(&mut self, place: usize, run: Run)
-        requires in_range { place ≤ length self.old.runs }
+    pub(crate) fn insert(&mut self, position: usize, run: Run)
+        requires in_range { position ≤ length self.old.runs }
         requires few { length self.old.runs + 1 < 2 ^ 32 }
         requires spare { length self.old.runs < self.old.room }
         requires colour { run.colour < 4 }
         requires some { 1 ≤ run.len }
         requires small { run.len < 2 ^ 32 }
-        ensures runs { self.new.runs ≡ insert self.old.runs place run }
+        ensures runs { self.new.runs ≡ insert self.old.runs position run }
         ensures room { self.new.room ≡ self.old.room }
     {
-        self.tree.insert_reserved(place, counts_of(run));
+        self.tree.insert_reserved(position, counts_of(run));
     }
 
     /// Puts another run in the place of one.
-    pub(crate) fn set(&mut self, place: usize, run: Run)
-        requires in_range { place < length self.old.runs }
+    pub(crate) fn set(&mut self, position: usize, run: Run)
+        requires in_range { position < length self.old.runs }
         requires colour { run.colour < 4 }
         requires some { 1 ≤ run.len }
         requires small { run.len < 2 ^ 32 }
-        ensures runs { self.new.runs ≡ slice_set self.old.runs place run }
+        ensures runs { self.new.runs ≡ slice_set self.old.runs position run }
         ensures room { self.new.room ≡ self.old.room }
     {
-        self.tree.set_own(place, counts_of(run));
+        self.tree.set_own(position, counts_of(run));
     }
 
     /// Takes the run at a place of the list of runs out.
-    pub(crate) fn remove(&mut self, place: usize)
-        requires { place < length self.old.runs }
-        ensures runs { self.new.runs ≡ remove self.old.runs place }
+    pub(crate) fn remove(&mut self, position: usize)
+        requires { position < length self.old.runs }
+        ensures runs { self.new.runs ≡ remove self.old.runs position }
         ensures room { self.new.room ≡ self.old.room }
     {
-        self.tree.remove_at(place);
+        self.tree.remove_at(position);
     }
 }

@@ -50,13 +50,14 @@ impl<const C: usize> Runs<C> {
         ensures small { result < 2 ^ 32 }
         ensures colours { AllBelow C self.now.colours }
     {
-        self.row.places()
+        self.row.positions()
     }
 
     /// The number of levels of the tree: at most twice the binary digits of the number of runs.
     pub fn height(&self) -> usize
         ensures deep { run_count self.now.colours < 2 ^ result }
-        ensures shallow { (digits : ℕ) → run_count self.now.colours < 2 ^ digits → result ≤ 2 * digits }
+        ensures shallow { (digits : ℕ) → run_count self.now.colours < 2 ^ digits
+            → result ≤ 2 * digits }
     {
         self.row.height()
     }
@@ -87,7 +88,7 @@ impl<const C: usize> Runs<C> {
     /// The place that has a colour of the set and k such places before it, `None` where there are no more than k.
     pub fn select(&self, k: usize, colours: u8) -> Option<usize>
         ensures some { IsSome result ↔ (k < count_among colours self.now.colours) }
-        ensures place { IfSome result (IsKth colours k self.now.colours) }
+        ensures position { IfSome result (IsKth colours k self.now.colours) }
     {
         ask::select::<C>(&self.row, k, Mask { bits: colours })
     }

@@ -58,7 +58,7 @@ fn counts(runs: &Runs<4>, plain: &[u8], at: usize, mask: u8) -> bool {
         .iter()
         .filter(|colour| is_among(**colour, mask))
         .count();
-    let place = plain[at..]
+    let position = plain[at..]
         .iter()
         .position(|colour| is_among(*colour, mask));
     let all = plain
@@ -67,7 +67,7 @@ fn counts(runs: &Runs<4>, plain: &[u8], at: usize, mask: u8) -> bool {
         .count();
     runs.rank(at, mask) == before
         && runs.count(mask) == all
-        && runs.select(before, mask) == place.map(|further| at + further)
+        && runs.select(before, mask) == position.map(|further| at + further)
 }
 
 // Puts `n` places of a colour in, and takes the room first.
@@ -99,9 +99,9 @@ fn paint(
 ) -> Result<(), Fail> {
     assert!(rt; n < 10 && at < 100_000 && at + n <= runs.len() && colour < 4);
     runs.paint(at, n, colour)?;
-    for place in at..at + n {
-        assert!(rt; place < plain.len());
-        plain[place] = colour;
+    for position in at..at + n {
+        assert!(rt; position < plain.len());
+        plain[position] = colour;
     }
     Ok(())
 }

@@ -1,8 +1,8 @@
 -- What a function list keeps.
 use Rattle.std.specs.Prelude.{ℕ, List, refl}
 use Rattle.std.specs.Coded.{Coded, code_by, coded×, coded_ℕ, coded_list}
-use Rattle.spec_value.specs.Tree.{Tree}
-use Rattle.spec_value.specs.Code.{tree_code}
+use Rattle.spec_views.specs.Tree.{Tree}
+use Rattle.spec_lang.specs.Code.{tree_code}
 use Rattle.spec_lang.specs.Func.{Func}
 use Rattle.spec_lang.specs.FuncCode.{func_code}
 
@@ -14,5 +14,6 @@ pub record Kept : Type 0 where
 
 abbrev pub kept_code : Coded Kept
 kept_code =
-    code_by (Func × (List Tree × ℕ)) (coded× func_code (coded× (coded_list tree_code) coded_ℕ)) (λ k. (k.func, (k.values, k.room)))
+    code_by (Func × (List Tree × ℕ)) (coded× func_code (coded× (coded_list tree_code) coded_ℕ))
+    (λ k. (k.func, (k.values, k.room)))
     (λ p. record { func = p.0; values = p.1.0; room = p.1.1 }) (λ _. refl)

@@ -1,6 +1,6 @@
 -- What a function list stands for, and what its undos give back.
 use Rattle.std.specs.Prelude.{List, length, unwrap_or}
-use Rattle.spec_value.specs.Tree.{Tree}
+use Rattle.spec_views.specs.Tree.{Tree}
 use Rattle.spec_lang.specs.Func.{Func, eval}
 use Rattle.gl_kernel.specs.Edits.{played, CanPlay}
 use Rattle.gl_kernel.specs.Results.{AreResults, LeadsBack}
@@ -21,7 +21,8 @@ contents k = record { func = k.func; values = k.values }
 
 -- what an undo makes of a function list
 abbrev pub before : FunctionUndo → Kept → Contents
-before undo k = record { func = unwrap_or undo.func k.func; values = played undo.log.items k.values }
+before undo k =
+    record { func = unwrap_or undo.func k.func; values = played undo.log.items k.values }
 
 -- the list has the room that the way back needs
 abbrev pub CanRetreat : FunctionUndo → Kept → Type 0

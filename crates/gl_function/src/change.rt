@@ -30,9 +30,9 @@ impl Function {
             ≡ edits_of 0 (renewed (eval param.now) (S.items input.now))) }
     {
         let mut plan = Plan::new(alloc);
-        for place in 0..input.len() {
-            let old = element(&self.results, place);
-            tell_updated(alloc, param, &mut plan, old, element(input, place))?;
+        for position in 0..input.len() {
+            let old = element(&self.results, position);
+            tell_updated(alloc, param, &mut plan, old, element(input, position))?;
         }
         let _normal = plan.out.old_len();
         Ok(plan)

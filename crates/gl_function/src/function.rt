@@ -1,9 +1,9 @@
 //! A function list.
 
 ghost use Rattle.std.specs.Prelude.{◌≡◌, ◌↔◌, ◌<◌, ◌≤◌, List, length, map, slice_get, IfOk, OnOk, OnErr, IsSome};
-ghost use Rattle.spec_value.specs.Tree.{Tree};
-ghost use Rattle.spec_lists.specs.Piece.{turned};
-ghost use Rattle.spec_lists.specs.Leads.{LeadsTo, applied};
+ghost use Rattle.spec_views.specs.Tree.{Tree};
+ghost use Rattle.spec_views.specs.Piece.{inverted};
+ghost use Rattle.spec_views.specs.Leads.{LeadsTo, applied};
 ghost use Rattle.spec_lang.specs.Func.{eval};
 ghost use Rattle.spec_views.specs.Function.{function_view, function_follow, function_change};
 ghost use Rattle.gl_kernel.specs.Found.{found};
@@ -61,9 +61,9 @@ impl Function {
         let _ = steps;
         let mut results = ValueList::new(alloc);
         results.reserve(input.len())?;
-        for place in 0..input.len() {
-            let result = param.eval(alloc, element(input, place))?;
-            results.insert(place, result);
+        for position in 0..input.len() {
+            let result = param.eval(alloc, element(input, position))?;
+            results.insert(position, result);
         }
         Ok(Function {
             alloc,
@@ -81,8 +81,10 @@ impl Function {
         steps: &mut Steps<L>,
     ) -> Result<(Delta, FunctionUndo), AllocError>
         requires leads { LeadsTo d.now.pieces (S.items input.now) }
-        requires stands { StandsFor self.old (applied (map turned d.now.pieces) (S.items input.now)) }
-        ensures pieces { IfOk result (λ told. told.0.pieces ≡ function_follow (eval self.old.func) d.now.pieces) }
+        requires stands { StandsFor self.old
+            (applied (map inverted d.now.pieces) (S.items input.now)) }
+        ensures pieces { IfOk result
+            (λ told. told.0.pieces ≡ function_follow (eval self.old.func) d.now.pieces) }
         ensures stands { OnOk result (StandsFor self.new (S.items input.now)) }
         ensures undo { IfOk result (λ told. IsUndo told.1 self.old self.new) }
         ensures err { OnErr result (contents self.new ≡ contents self.old) }
@@ -150,12 +152,12 @@ impl Function {
     }
 
     /// Where the element that is shown at a place stands, or `None` exactly where the place isn't below the length.
-    pub fn find(&self, place: usize) -> Option<Find<'_>>
+    pub fn find(&self, position: usize) -> Option<Find<'_>>
         ensures view { (xs : List Tree) → StandsFor self.now xs
-            → found result xs ≡ slice_get (function_view (eval self.now.func) xs) place }
-        ensures some { IsSome result ↔ (place < length self.now.values) }
+            → found result xs ≡ slice_get (function_view (eval self.now.func) xs) position }
+        ensures some { IsSome result ↔ (position < length self.now.values) }
     {
-        match self.results.get(place) {
+        match self.results.get(position) {
             Some(value) => Some(Find::Own(value)),
             None => None,
         }

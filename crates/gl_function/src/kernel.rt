@@ -65,7 +65,7 @@ impl Kernel for Function {
         Function::len(self)
     }
 
-    fn find(&self, place: usize) -> Option<Find<'_>> {
-        Function::find(self, place)
+    fn find(&self, position: usize) -> Option<Find<'_>> {
+        Function::find(self, position)
     }
 }

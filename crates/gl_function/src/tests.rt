@@ -1,5 +1,5 @@
 ghost use Rattle.std.specs.Prelude.{◌≡◌, ◌<◌, ◌≤◌, length};
-ghost use Rattle.spec_lists.specs.Leads.{IsDelta};
+ghost use Rattle.spec_views.specs.Leads.{IsDelta};
 
 use crate::Function;
 use gl_delta::Find;
@@ -11,16 +11,16 @@ use std::marker::Brand;
 use std::sync::ledger::{Blank, Ledger};
 use std::test::Fail;
 
-fn finds(list: &Function, place: usize, n: i64) -> bool {
-    match list.find(place) {
+fn finds(list: &Function, position: usize, n: i64) -> bool {
+    match list.find(position) {
         Some(Find::Own(v)) => is_number(v, n),
         _ => false,
     }
 }
 
 fn shows(list: &Function, shown: &[i64]) -> bool {
-    for place in 0..shown.len() {
-        if !finds(list, place, shown[place]) {
+    for position in 0..shown.len() {
+        if !finds(list, position, shown[position]) {
             return false;
         }
     }
@@ -55,52 +55,52 @@ fn follows<L: Ledger>(
     Ok(opened && followed && shows(&list, shown.0))
 }
 
-// Each case: a change of the list, what is told where the function adds 10, and what is shown before and behind it.
+/// A change of the list, what is told where the function adds 10, and what is shown before and after it.
+const FOLLOWED: [(&[Row], &[Told], &[i64], &[i64]); 6] = [
+    (
+        &[
+            Row::Keep(1),
+            Row::Update(2, 7),
+            Row::Delete(3),
+            Row::Insert(9),
+            Row::Keep(4),
+            Row::Keep(5),
+        ],
+        &[
+            Told::Keep(1),
+            Told::Update(12, 17),
+            Told::Delete(13),
+            Told::Insert(19),
+            Told::Keep(2),
+        ],
+        &[11, 12, 13, 14, 15],
+        &[11, 17, 19, 14, 15],
+    ),
+    (
+        &[Row::Insert(5), Row::Insert(6), Row::Delete(1)],
+        &[Told::Delete(11), Told::Insert(15), Told::Insert(16)],
+        &[11],
+        &[15, 16],
+    ),
+    (
+        &[Row::Update(5, 5), Row::Keep(5)],
+        &[Told::Update(15, 15), Told::Keep(1)],
+        &[15, 15],
+        &[15, 15],
+    ),
+    (
+        &[Row::Delete(1), Row::Delete(2)],
+        &[Told::Delete(11), Told::Delete(12)],
+        &[11, 12],
+        &[],
+    ),
+    (&[Row::Insert(3)], &[Told::Insert(13)], &[], &[13]),
+    (&[], &[], &[], &[]),
+];
+
 #[test]
 fn changes_of_the_list(rt: HostRuntime) -> Result<(), Fail> {
-    for (rows, told, before, after) in [
-        (
-            [
-                Row::Keep(1),
-                Row::Update(2, 7),
-                Row::Delete(3),
-                Row::Insert(9),
-                Row::Keep(4),
-                Row::Keep(5),
-            ]
-            .as_slice(),
-            [
-                Told::Keep(1),
-                Told::Update(12, 17),
-                Told::Delete(13),
-                Told::Insert(19),
-                Told::Keep(2),
-            ]
-            .as_slice(),
-            [11, 12, 13, 14, 15].as_slice(),
-            [11, 17, 19, 14, 15].as_slice(),
-        ),
-        (
-            &[Row::Insert(5), Row::Insert(6), Row::Delete(1)],
-            &[Told::Delete(11), Told::Insert(15), Told::Insert(16)],
-            &[11],
-            &[15, 16],
-        ),
-        (
-            &[Row::Update(5, 5), Row::Keep(5)],
-            &[Told::Update(15, 15), Told::Keep(1)],
-            &[15, 15],
-            &[15, 15],
-        ),
-        (
-            &[Row::Delete(1), Row::Delete(2)],
-            &[Told::Delete(11), Told::Delete(12)],
-            &[11, 12],
-            &[],
-        ),
-        (&[Row::Insert(3)], &[Told::Insert(13)], &[], &[13]),
-        (&[], &[], &[], &[]),
-    ] {
+    for (rows, told, before, after) in FOLLOWED {
         let change = change_of(rt.alloc(), rows)?;
         assert!(rt; change.before.len() < 100);
         let right = follows::<Brand>(rt.alloc(), &change, told, (before, after), Blank::new(1))?;
@@ -131,18 +131,20 @@ fn takes_function<L: Ledger>(
     Ok(opened && changed && shows(&results, shown.0) && results.func().same(&ten))
 }
 
-// Each case: a list, what is told where the function adds 10 and then 100, and what is shown before and behind that.
+/// A list, what is told where the function adds 10 and then 100, and what is shown before and after that.
+const EXCHANGED: [(&[i64], &[Told], &[i64], &[i64]); 2] = [
+    (
+        &[1, 2],
+        &[Told::Update(11, 101), Told::Update(12, 102)],
+        &[11, 12],
+        &[101, 102],
+    ),
+    (&[], &[], &[], &[]),
+];
+
 #[test]
 fn changes_of_the_function(rt: HostRuntime) -> Result<(), Fail> {
-    for (list, told, before, after) in [
-        (
-            [1, 2].as_slice(),
-            [Told::Update(11, 101), Told::Update(12, 102)].as_slice(),
-            [11, 12].as_slice(),
-            [101, 102].as_slice(),
-        ),
-        (&[], &[], &[], &[]),
-    ] {
+    for (list, told, before, after) in EXCHANGED {
         let list = numbers(rt.alloc(), list)?;
         assert!(rt; list.len() < 100);
         let right = takes_function::<Brand>(

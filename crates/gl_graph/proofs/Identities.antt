@@ -1,15 +1,15 @@
 -- What doesn't change isn't told on, and a change that is none leaves a list as it was.
 use Rattle.std.proofs.Common.{◌≡◌, ◌∙◌, ℕ, zero, suc, List, [], ◌∷◌, length, refl, ap, arith}
-use Rattle.spec_value.specs.Tree.{Tree}
-use Rattle.spec_lang.specs.Matcher.{accepts}
-use Rattle.spec_lang.specs.Func.{eval}
-use Rattle.spec_lists.specs.Delta.{no_change}
-use Rattle.spec_lists.specs.Leads.{IsDelta, applied}
-use Rattle.spec_lists.proofs.Leading.{length_from}
-use Rattle.spec_lists.proofs.Lengths.{old_len-identity}
-use Rattle.spec_views.specs.View.{view_of, follow_of}
-use Rattle.spec_views.proofs.Single.{identity_follow}
-use Rattle.spec_views.proofs.Same.{range_same, function_same}
+use Rattle.spec_states.specs.Tree.{Tree}
+use Rattle.spec_states.specs.Matcher.{accepts}
+use Rattle.spec_states.specs.Func.{eval}
+use Rattle.spec_states.specs.Delta.{no_change}
+use Rattle.spec_states.specs.Leads.{IsDelta, applied}
+use Rattle.spec_states.proofs.DeltaLeads.{length_from}
+use Rattle.spec_states.proofs.Lengths.{old_len-identity}
+use Rattle.spec_states.specs.View.{view_of, follow_of}
+use Rattle.spec_states.proofs.Single.{identity_follow}
+use Rattle.spec_states.proofs.Same.{range_same, function_same}
 use Rattle.spec_states.specs.Shown.{shown_of}
 use Rattle.spec_states.specs.Wave.{follow}
 use Rattle.gl_graph.specs.declared.derived.Derived.{Derived}

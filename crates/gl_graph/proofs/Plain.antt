@@ -5,11 +5,11 @@ use Rattle.std.specs.List.{Contains}
 use Rattle.std.proofs.lemmas.Bool.{cases_lt}
 use Rattle.std.proofs.lemmas.Option.{unwrap_or-slice_get}
 use Rattle.std.proofs.lemmas.List.FromFn.{get_or-map-range_with_len, length-map-range_with_len}
-use Rattle.spec_order.proofs.Members.{Contains-cons_cases, Contains-here}
-use Rattle.spec_value.specs.Tree.{Tree}
-use Rattle.spec_lists.specs.Delta.{Delta}
-use Rattle.spec_views.specs.View.{follow_of}
-use Rattle.gl_lines.specs.declared.plan.Command.{Command}
+use Rattle.spec_states.proofs.Members.{Contains-cons_cases, Contains-here}
+use Rattle.spec_states.specs.Tree.{Tree}
+use Rattle.spec_states.specs.Delta.{Delta}
+use Rattle.spec_states.specs.View.{follow_of}
+use Rattle.spec_states.specs.Command.{Command}
 use Rattle.spec_states.specs.State.{Own, State, source, over, inputs, own_at}
 use Rattle.spec_states.specs.Wave.{follow, first_delta, parameter_of, parameter_change, kept_after}
 use Rattle.spec_states.specs.Laws.{IsOrdered, Fits, IsSound}
@@ -35,17 +35,17 @@ node_plain None = tt
 node_plain (Some node) = own_plain node.keeps
 
 -- what a list of the state keeps
-pub own_at_state : (nodes : List Node) (places : List ℕ) (list : ℕ) → list < length places → own_at (state_of nodes places) list ≡ own_in nodes places list
-own_at_state nodes places list within =
-    unwrap_or-slice_get (state_of nodes places) list (source []) ∙ get_or-map-range_with_len (own_in nodes places) 0 (length places) list list (source []) within (omega arith)
+pub own_at_state : (nodes : List Node) (positions : List ℕ) (list : ℕ) → list < length positions → own_at (state_of nodes positions) list ≡ own_in nodes positions list
+own_at_state nodes positions list within =
+    unwrap_or-slice_get (state_of nodes positions) list (source []) ∙ get_or-map-range_with_len (own_in nodes positions) 0 (length positions) list list (source []) within (omega arith)
 
-pub long_state : (nodes : List Node) (places : List ℕ) → length (state_of nodes places) ≡ length places
-long_state nodes places = length-map-range_with_len (own_in nodes places) 0 (length places)
+pub long_state : (nodes : List Node) (positions : List ℕ) → length (state_of nodes positions) ≡ length positions
+long_state nodes positions = length-map-range_with_len (own_in nodes positions) 0 (length positions)
 
-pub state_plain : (nodes : List Node) (places : List ℕ) (list : ℕ) → IsPlain (own_at (state_of nodes places) list)
-state_plain nodes places list = elim (cases_lt list (length places)) [
-  | inl within ↦ subst IsPlain (sym (own_at_state nodes places list within)) (node_plain (slice_get nodes (slice_index places list)))
-  | inr past ↦ subst IsPlain (sym (own_past (state_of nodes places) list (omega (arith, past, long_state nodes places)))) tt
+pub state_plain : (nodes : List Node) (positions : List ℕ) (list : ℕ) → IsPlain (own_at (state_of nodes positions) list)
+state_plain nodes positions list = elim (cases_lt list (length positions)) [
+  | inl within ↦ subst IsPlain (sym (own_at_state nodes positions list within)) (node_plain (slice_get nodes (slice_index positions list)))
+  | inr past ↦ subst IsPlain (sym (own_past (state_of nodes positions) list (omega (arith, past, long_state nodes positions)))) tt
 ]
 
 plain_fits : (s : State) (own : Own) → IsPlain own → Fits s own
@@ -54,10 +54,10 @@ plain_fits s (over input view) h = tt
 plain_fits s other h = absurd h
 
 -- so an ordered state of theirs is a state as plans have it
-pub state_sound : (nodes : List Node) (places : List ℕ) → IsOrdered (state_of nodes places) → IsSound (state_of nodes places)
-state_sound nodes places h = record {
+pub state_sound : (nodes : List Node) (positions : List ℕ) → IsOrdered (state_of nodes positions) → IsSound (state_of nodes positions)
+state_sound nodes positions h = record {
   ordered = h;
-  fits = λ list within. plain_fits (state_of nodes places) (own_at (state_of nodes places) list) (state_plain nodes places list);
+  fits = λ list within. plain_fits (state_of nodes positions) (own_at (state_of nodes positions) list) (state_plain nodes positions list);
 }
 
 plain_inward : (own : Own) → IsPlain own → Inward own
@@ -65,8 +65,8 @@ plain_inward (source contents) h = tt
 plain_inward (over input view) h = tt
 plain_inward other h = absurd h
 
-pub state_inward : (nodes : List Node) (places : List ℕ) → IsInward (state_of nodes places)
-state_inward nodes places list = plain_inward (own_at (state_of nodes places) list) (state_plain nodes places list)
+pub state_inward : (nodes : List Node) (positions : List ℕ) → IsInward (state_of nodes positions)
+state_inward nodes positions list = plain_inward (own_at (state_of nodes positions) list) (state_plain nodes positions list)
 
 pub inward : (keeps : Keeps) → Inward (own_of keeps)
 inward keeps = plain_inward (own_of keeps) (own_plain keeps)

@@ -1,7 +1,7 @@
 -- What is said of a list whatever its room, and the way back in more room.
 use Rattle.std.proofs.Common.{◌≡◌, ◌∙◌, ℕ, ◌≤◌, List, refl, ap, sym, subst}
-use Rattle.spec_value.specs.Tree.{Tree}
-use Rattle.gl_kernel.proofs.Playing.{can_play_more}
+use Rattle.spec_states.specs.Tree.{Tree}
+use Rattle.gl_source.proofs.Play.{can_play_more}
 use Rattle.gl_graph.specs.declared.derived.Derived.{Derived}
 use Rattle.gl_graph.specs.declared.derived.Derived.TheVariants as d
 use Rattle.gl_graph.specs.declared.derived.DerivedUndo.{DerivedUndo}

@@ -7,7 +7,7 @@ use Rattle.gl_graph.specs.declared.node.Node.{Node}
 use Rattle.gl_graph.specs.declared.keeps.KeepsUndo.{KeepsUndo}
 use Rattle.gl_graph.specs.Nodes.{numbers}
 use Rattle.gl_graph.specs.Undos as keeps
-use Rattle.gl_graph.specs.Waves.{Made, put_undo, by_place, AreApartFrom, AreApart, contents_of, before_one, before_all, CanGoBack, CanAllGoBack, HaveRoomOf}
+use Rattle.gl_graph.specs.Waves.{Made, put_undo, by_position, AreApartFrom, AreApart, contents_of, before_one, before_all, CanGoBack, CanAllGoBack, HaveRoomOf}
 use Rattle.gl_graph.specs.Backs.{CanGoBackAt, IsOneBack, IsBackAt}
 
 -- the last undo of those that were made
@@ -26,13 +26,13 @@ apart_more undos [] one h e = (e, tt)
 apart_more undos (first ∷ made) one h e = (h.0, apart_more (put_undo undos first) made one h.1 e)
 
 -- one that can be taken back
-can_put : (undos : List (Option KeepsUndo)) (undo : KeepsUndo) (place : ℕ) (nodes : List Node) → slice_get undos place ≡ Some None
-    → CanAllGoBack (slice_set undos place (Some undo)) nodes → CanGoBackAt (Some undo) place nodes
-can_put [] undo place nodes e can node is = absurd cc
+can_put : (undos : List (Option KeepsUndo)) (undo : KeepsUndo) (position : ℕ) (nodes : List Node) → slice_get undos position ≡ Some None
+    → CanAllGoBack (slice_set undos position (Some undo)) nodes → CanGoBackAt (Some undo) position nodes
+can_put [] undo position nodes e can node is = absurd cc
 can_put (d ∷ undos) undo zero [] e can node is = absurd cc
 can_put (d ∷ undos) undo zero (n ∷ nodes) e can node is = (let same : n ≡ node = cc in subst (λ (m : Node). CanGoBack (Some undo) m.keeps) same can.0)
-can_put (d ∷ undos) undo (suc place) [] e can node is = absurd cc
-can_put (d ∷ undos) undo (suc place) (n ∷ nodes) e can node is = can_put undos undo place nodes e can.1 node is
+can_put (d ∷ undos) undo (suc position) [] e can node is = absurd cc
+can_put (d ∷ undos) undo (suc position) (n ∷ nodes) e can node is = can_put undos undo position nodes e can.1 node is
 
 same_nodes : (a b : List Node) → length a ≡ length b → ((p : ℕ) → slice_get a p ≡ slice_get b p) → a ≡ b
 same_nodes [] [] long same = refl
@@ -43,65 +43,65 @@ same_nodes (m ∷ a) (n ∷ b) long same =
     let rest : a ≡ b = same_nodes a b (omega (arith, long)) (λ p. same (suc p)) in
     ap (λ x. x ∷ a) first ∙ ap (λ xs. n ∷ xs) rest
 
-rest_back : (undo : Option KeepsUndo) (place : ℕ) (m n : Node) (old new : List Node)
-    → IsBackAt undo (suc place) (m ∷ old) (n ∷ new) → IsBackAt undo place old new
-rest_back undo place m n old new back = record {
+rest_back : (undo : Option KeepsUndo) (position : ℕ) (m n : Node) (old new : List Node)
+    → IsBackAt undo (suc position) (m ∷ old) (n ∷ new) → IsBackAt undo position old new
+rest_back undo position m n old new back = record {
   long = (let long = back.long in omega (arith, long));
   others = λ p other. back.others (suc p) (λ e. other (omega (arith, e)));
   this = λ a b is_a is_b. back.this a b is_a is_b;
 }
 
-first_same : (undo : Option KeepsUndo) (place : ℕ) (m n : Node) (old new : List Node)
-    → IsBackAt undo (suc place) (m ∷ old) (n ∷ new) → n ≡ m
-first_same undo place m n old new back = (let both : Some n ≡ Some m = back.others 0 (λ e. absurd (omega (arith, e))) in cc)
+first_same : (undo : Option KeepsUndo) (position : ℕ) (m n : Node) (old new : List Node)
+    → IsBackAt undo (suc position) (m ∷ old) (n ∷ new) → n ≡ m
+first_same undo position m n old new back = (let both : Some n ≡ Some m = back.others 0 (λ e. absurd (omega (arith, e))) in cc)
 
 others_same : (undo : Option KeepsUndo) (m n : Node) (old new : List Node) → IsBackAt undo 0 (m ∷ old) (n ∷ new)
     → new ≡ old
 others_same undo m n old new back = same_nodes new old (let long = back.long in omega (arith, long)) (λ p. back.others (suc p) (λ e. absurd (omega (arith, e))))
 
 -- and then the others
-rest_put : (undos : List (Option KeepsUndo)) (undo : KeepsUndo) (place : ℕ) (old new : List Node) → slice_get undos place ≡ Some None
-    → IsBackAt (Some undo) place old new → CanAllGoBack (slice_set undos place (Some undo)) old → CanAllGoBack undos new
-rest_put [] undo place old new e back can = absurd cc
-rest_put (d ∷ undos) undo place old [] e back can = tt
-rest_put (d ∷ undos) undo place [] (n ∷ new) e back can = absurd (let long = back.long in omega (arith, long))
+rest_put : (undos : List (Option KeepsUndo)) (undo : KeepsUndo) (position : ℕ) (old new : List Node) → slice_get undos position ≡ Some None
+    → IsBackAt (Some undo) position old new → CanAllGoBack (slice_set undos position (Some undo)) old → CanAllGoBack undos new
+rest_put [] undo position old new e back can = absurd cc
+rest_put (d ∷ undos) undo position old [] e back can = tt
+rest_put (d ∷ undos) undo position [] (n ∷ new) e back can = absurd (let long = back.long in omega (arith, long))
 rest_put (d ∷ undos) undo zero (m ∷ old) (n ∷ new) e back can =
     let none : None ≡ d = cc in
     (subst (λ o. CanGoBack o n.keeps) none tt, subst (λ ns. CanAllGoBack undos ns) (sym (others_same (Some undo) m n old new back)) can.1)
-rest_put (d ∷ undos) undo (suc place) (m ∷ old) (n ∷ new) e back can =
-    let same : n ≡ m = first_same (Some undo) place m n old new back in
-    (subst (λ (x : Node). CanGoBack d x.keeps) (sym same) can.0, rest_put undos undo place old new e (rest_back (Some undo) place m n old new back) can.1)
+rest_put (d ∷ undos) undo (suc position) (m ∷ old) (n ∷ new) e back can =
+    let same : n ≡ m = first_same (Some undo) position m n old new back in
+    (subst (λ (x : Node). CanGoBack d x.keeps) (sym same) can.0, rest_put undos undo position old new e (rest_back (Some undo) position m n old new back) can.1)
 
 -- what is left, of what there is, is the whole
-left_put : (undos : List (Option KeepsUndo)) (undo : KeepsUndo) (place : ℕ) (old new : List Node) → slice_get undos place ≡ Some None
-    → IsBackAt (Some undo) place old new → before_all undos new ≡ before_all (slice_set undos place (Some undo)) old
-left_put [] undo place old new e back = absurd cc
+left_put : (undos : List (Option KeepsUndo)) (undo : KeepsUndo) (position : ℕ) (old new : List Node) → slice_get undos position ≡ Some None
+    → IsBackAt (Some undo) position old new → before_all undos new ≡ before_all (slice_set undos position (Some undo)) old
+left_put [] undo position old new e back = absurd cc
 left_put (d ∷ undos) undo zero [] [] e back = refl
-left_put (d ∷ undos) undo (suc place) [] [] e back = refl
-left_put (d ∷ undos) undo place [] (n ∷ new) e back = absurd (let long = back.long in omega (arith, long))
-left_put (d ∷ undos) undo place (m ∷ old) [] e back = absurd (let long = back.long in omega (arith, long))
+left_put (d ∷ undos) undo (suc position) [] [] e back = refl
+left_put (d ∷ undos) undo position [] (n ∷ new) e back = absurd (let long = back.long in omega (arith, long))
+left_put (d ∷ undos) undo position (m ∷ old) [] e back = absurd (let long = back.long in omega (arith, long))
 left_put (d ∷ undos) undo zero (m ∷ old) (n ∷ new) e back =
     let none : d ≡ None = cc in
     let gone : keeps.contents n.keeps ≡ before_one (Some undo) m.keeps = (back.this m n refl refl).keeps_is in
     let rest : new ≡ old = others_same (Some undo) m n old new back in
     ap (λ o. before_one o n.keeps ∷ before_all undos new) none
     ∙ (ap (λ c. c ∷ before_all undos new) gone ∙ ap (λ ns. before_one (Some undo) m.keeps ∷ before_all undos ns) rest)
-left_put (d ∷ undos) undo (suc place) (m ∷ old) (n ∷ new) e back =
-    let same : n ≡ m = first_same (Some undo) place m n old new back in
+left_put (d ∷ undos) undo (suc position) (m ∷ old) (n ∷ new) e back =
+    let same : n ≡ m = first_same (Some undo) position m n old new back in
     ap (λ (x : Node). before_one d x.keeps ∷ before_all undos new) same
-    ∙ ap (λ cs. before_one d m.keeps ∷ cs) (left_put undos undo place old new e (rest_back (Some undo) place m n old new back))
+    ∙ ap (λ cs. before_one d m.keeps ∷ cs) (left_put undos undo position old new e (rest_back (Some undo) position m n old new back))
 
 -- what is known of the undos that are left
 pub record AreLeft (n : ℕ) (made : Made) (nodes : List Node) (back : List keeps.Contents) : Type 0 where
   pub long : length nodes ≡ n
-  pub left : before_all (by_place n made) nodes ≡ back
-  pub can : CanAllGoBack (by_place n made) nodes
+  pub left : before_all (by_position n made) nodes ≡ back
+  pub can : CanAllGoBack (by_position n made) nodes
   pub apart : AreApart n made
 
 -- the last of them can be taken back, and leaves the others
 pub last_can : (n : ℕ) (made : Made) (one : ℕ × KeepsUndo) (nodes : List Node) (back : List keeps.Contents) → AreLeft n (made ++ one ∷ []) nodes back → CanGoBackAt (Some one.1) one.0 nodes
 last_can n made one nodes back h =
-    can_put (by_place n made) one.1 one.0 nodes (apart_last (replicate n None) made one h.apart).1
+    can_put (by_position n made) one.1 one.0 nodes (apart_last (replicate n None) made one h.apart).1
     (subst (λ us. CanAllGoBack us nodes) (placed_last (replicate n None) made one) h.can)
 
 pub last_left : (n : ℕ) (made : Made) (one : ℕ × KeepsUndo) (old new : List Node) (back : List keeps.Contents) → AreLeft n (made ++ one ∷ []) old back
@@ -110,22 +110,22 @@ last_left n made one old new back h gone =
     let apart = apart_last (replicate n None) made one h.apart in
     record {
       long = gone.long ∙ h.long;
-      left = left_put (by_place n made) one.1 one.0 old new apart.1 gone ∙ (ap (λ us. before_all us old) (sym (placed_last (replicate n None) made one)) ∙ h.left);
-      can = rest_put (by_place n made) one.1 one.0 old new apart.1 gone (subst (λ us. CanAllGoBack us old) (placed_last (replicate n None) made one) h.can);
+      left = left_put (by_position n made) one.1 one.0 old new apart.1 gone ∙ (ap (λ us. before_all us old) (sym (placed_last (replicate n None) made one)) ∙ h.left);
+      can = rest_put (by_position n made) one.1 one.0 old new apart.1 gone (subst (λ us. CanAllGoBack us old) (placed_last (replicate n None) made one) h.can);
       apart = apart.0;
     }
 
 -- the numbers stay
-pub numbers_back : (undo : Option KeepsUndo) (place : ℕ) (old new : List Node) → IsBackAt undo place old new
+pub numbers_back : (undo : Option KeepsUndo) (position : ℕ) (old new : List Node) → IsBackAt undo position old new
     → numbers new ≡ numbers old
-numbers_back undo place [] [] back = refl
-numbers_back undo place [] (n ∷ new) back = absurd (let long = back.long in omega (arith, long))
-numbers_back undo place (m ∷ old) [] back = absurd (let long = back.long in omega (arith, long))
+numbers_back undo position [] [] back = refl
+numbers_back undo position [] (n ∷ new) back = absurd (let long = back.long in omega (arith, long))
+numbers_back undo position (m ∷ old) [] back = absurd (let long = back.long in omega (arith, long))
 numbers_back undo zero (m ∷ old) (n ∷ new) back =
     ap (λ l. l ∷ numbers new) (back.this m n refl refl).list_is ∙ ap (λ ns. m.list ∷ numbers ns) (others_same undo m n old new back)
-numbers_back undo (suc place) (m ∷ old) (n ∷ new) back =
-    ap (λ (x : Node). x.list ∷ numbers new) (first_same undo place m n old new back)
-    ∙ ap (λ ns. m.list ∷ ns) (numbers_back undo place old new (rest_back undo place m n old new back))
+numbers_back undo (suc position) (m ∷ old) (n ∷ new) back =
+    ap (λ (x : Node). x.list ∷ numbers new) (first_same undo position m n old new back)
+    ∙ ap (λ ns. m.list ∷ ns) (numbers_back undo position old new (rest_back undo position m n old new back))
 
 same_room : (x y : Node) (p : ℕ) (old new : List Node) → new ≡ old → slice_get old p ≡ Some x
     → slice_get new p ≡ Some y → keeps.room_of x.keeps ≤ keeps.room_of y.keeps
@@ -135,16 +135,16 @@ same_room x y p old new e is_x is_y =
     subst (λ (n : Node). keeps.room_of x.keeps ≤ keeps.room_of n.keeps) same (omega arith)
 
 -- no room is lost
-pub room_back : (undo : Option KeepsUndo) (place : ℕ) (old new : List Node) → IsBackAt undo place old new
+pub room_back : (undo : Option KeepsUndo) (position : ℕ) (old new : List Node) → IsBackAt undo position old new
     → HaveRoomOf old new
 room_back undo zero old new back zero x y is_x is_y = (back.this x y is_x is_y).room
 room_back undo zero (m ∷ old) (n ∷ new) back (suc p) x y is_x is_y = same_room x y p old new (others_same undo m n old new back) is_x is_y
-room_back undo (suc place) (m ∷ old) (n ∷ new) back zero x y is_x is_y = same_room x y 0 (m ∷ []) (n ∷ []) (ap (λ z. z ∷ []) (first_same undo place m n old new back)) is_x is_y
-room_back undo (suc place) (m ∷ old) (n ∷ new) back (suc p) x y is_x is_y = room_back undo place old new (rest_back undo place m n old new back) p x y is_x is_y
+room_back undo (suc position) (m ∷ old) (n ∷ new) back zero x y is_x is_y = same_room x y 0 (m ∷ []) (n ∷ []) (ap (λ z. z ∷ []) (first_same undo position m n old new back)) is_x is_y
+room_back undo (suc position) (m ∷ old) (n ∷ new) back (suc p) x y is_x is_y = room_back undo position old new (rest_back undo position m n old new back) p x y is_x is_y
 room_back undo zero [] new back (suc p) x y is_x is_y = absurd cc
 room_back undo zero (m ∷ old) [] back (suc p) x y is_x is_y = absurd cc
-room_back undo (suc place) [] new back p x y is_x is_y = absurd cc
-room_back undo (suc place) (m ∷ old) [] back p x y is_x is_y = absurd cc
+room_back undo (suc position) [] new back p x y is_x is_y = absurd cc
+room_back undo (suc position) (m ∷ old) [] back p x y is_x is_y = absurd cc
 
 -- without undos nothing changes
 pub none_back : (n : ℕ) (nodes : List Node) → before_all (replicate n None) nodes ≡ contents_of nodes
@@ -152,41 +152,41 @@ none_back n [] = refl
 none_back zero (m ∷ nodes) = ap (λ ks. keeps.contents m.keeps ∷ ks) (none_back zero nodes)
 none_back (suc n) (m ∷ nodes) = ap (λ ks. keeps.contents m.keeps ∷ ks) (none_back n nodes)
 
-get_other : (nodes : List Node) (place p : ℕ) (m : Node) → ¬ (p ≡ place)
-    → slice_get (slice_set nodes place m) p ≡ slice_get nodes p
+get_other : (nodes : List Node) (position p : ℕ) (m : Node) → ¬ (p ≡ position)
+    → slice_get (slice_set nodes position m) p ≡ slice_get nodes p
 get_other [] zero p m other = refl
-get_other [] (suc place) p m other = refl
+get_other [] (suc position) p m other = refl
 get_other (n ∷ nodes) zero zero m other = absurd (other refl)
 get_other (n ∷ nodes) zero (suc p) m other = refl
-get_other (n ∷ nodes) (suc place) zero m other = refl
-get_other (n ∷ nodes) (suc place) (suc p) m other = get_other nodes place p m (λ e. other (ap suc e))
+get_other (n ∷ nodes) (suc position) zero m other = refl
+get_other (n ∷ nodes) (suc position) (suc p) m other = get_other nodes position p m (λ e. other (ap suc e))
 
-get_set : (nodes : List Node) (place : ℕ) (m : Node) → place < length nodes
-    → slice_get (slice_set nodes place m) place ≡ Some m
-get_set [] place m within = absurd (omega (arith, within))
+get_set : (nodes : List Node) (position : ℕ) (m : Node) → position < length nodes
+    → slice_get (slice_set nodes position m) position ≡ Some m
+get_set [] position m within = absurd (omega (arith, within))
 get_set (n ∷ nodes) zero m within = refl
-get_set (n ∷ nodes) (suc place) m within = get_set nodes place m (omega (arith, within))
+get_set (n ∷ nodes) (suc position) m within = get_set nodes position m (omega (arith, within))
 
 -- the node that is read there can go back
-pub can_here : (undo : Option KeepsUndo) (known : KeepsUndo) (place : ℕ) (nodes : List Node) (n : Node)
-    → undo ≡ Some known → n ≡ slice_index_or nodes place n → place < length nodes
-    → CanGoBackAt undo place nodes → keeps.CanRetreat known n.keeps
-can_here undo known place nodes n e value within can =
-    let there : slice_get nodes place ≡ Some n = slice_get-get_or nodes place n within ∙ ap Some (sym value) in
+pub can_here : (undo : Option KeepsUndo) (known : KeepsUndo) (position : ℕ) (nodes : List Node) (n : Node)
+    → undo ≡ Some known → n ≡ slice_index_or nodes position n → position < length nodes
+    → CanGoBackAt undo position nodes → keeps.CanRetreat known n.keeps
+can_here undo known position nodes n e value within can =
+    let there : slice_get nodes position ≡ Some n = slice_get-get_or nodes position n within ∙ ap Some (sym value) in
     subst (λ o. CanGoBack o n.keeps) e (can n there)
 
 -- and has gone back where another one is written in its place
-pub back_here : (undo : Option KeepsUndo) (known : KeepsUndo) (place : ℕ) (nodes : List Node) (n m : Node)
-    → undo ≡ Some known → n ≡ slice_index_or nodes place n → place < length nodes
+pub back_here : (undo : Option KeepsUndo) (known : KeepsUndo) (position : ℕ) (nodes : List Node) (n m : Node)
+    → undo ≡ Some known → n ≡ slice_index_or nodes position n → position < length nodes
     → m.list ≡ n.list → keeps.contents m.keeps ≡ keeps.before known n.keeps
-    → keeps.room_of n.keeps ≤ keeps.room_of m.keeps → IsBackAt undo place nodes (slice_set nodes place m)
-back_here undo known place nodes n m e value within list_is keeps_is room = record {
-  long = length-set nodes place m;
-  others = λ p other. get_other nodes place p m other;
+    → keeps.room_of n.keeps ≤ keeps.room_of m.keeps → IsBackAt undo position nodes (slice_set nodes position m)
+back_here undo known position nodes n m e value within list_is keeps_is room = record {
+  long = length-set nodes position m;
+  others = λ p other. get_other nodes position p m other;
   this = λ a b is_a is_b.
-      (let there : slice_get nodes place ≡ Some n = slice_get-get_or nodes place n within ∙ ap Some (sym value) in
+      (let there : slice_get nodes position ≡ Some n = slice_get-get_or nodes position n within ∙ ap Some (sym value) in
       let old : Some n ≡ Some a = sym there ∙ is_a in
-      let new : Some m ≡ Some b = sym (get_set nodes place m within) ∙ is_b in
+      let new : Some m ≡ Some b = sym (get_set nodes position m within) ∙ is_b in
       let old_is : n ≡ a = cc in
       let new_is : m ≡ b = cc in
       let here : IsOneBack undo n m = record { list_is = list_is; keeps_is = keeps_is ∙ ap (λ o. before_one o n.keeps) (sym e); room = room } in
@@ -194,10 +194,10 @@ back_here undo known place nodes n m e value within list_is keeps_is room = reco
 }
 
 -- where there is no node nothing changes
-pub back_past : (undo : Option KeepsUndo) (place : ℕ) (nodes : List Node) → length nodes ≤ place
-    → IsBackAt undo place nodes nodes
-back_past undo place nodes past = record {
+pub back_past : (undo : Option KeepsUndo) (position : ℕ) (nodes : List Node) → length nodes ≤ position
+    → IsBackAt undo position nodes nodes
+back_past undo position nodes past = record {
   long = refl;
   others = λ p other. refl;
-  this = λ a b is_a is_b. absurd (let within : place < length nodes = slice_get_within nodes place a is_a in omega (arith, within, past));
+  this = λ a b is_a is_b. absurd (let within : position < length nodes = slice_get_within nodes position a is_a in omega (arith, within, past));
 }

@@ -7,7 +7,8 @@ use Rattle.gl_graph.specs.Waves.{before_one, CanGoBack}
 
 -- the node at a place, if there is one, can go back
 abbrev pub CanGoBackAt : Option KeepsUndo → ℕ → List Node → Type 0
-CanGoBackAt undo place nodes = (node : Node) → slice_get nodes place ≡ Some node → CanGoBack undo node.keeps
+CanGoBackAt undo position nodes =
+    (node : Node) → slice_get nodes position ≡ Some node → CanGoBack undo node.keeps
 
 -- the node is what an undo makes of it, and has no less room
 pub record IsOneBack (undo : Option KeepsUndo) (old new : Node) : Type 0 where
@@ -16,7 +17,8 @@ pub record IsOneBack (undo : Option KeepsUndo) (old new : Node) : Type 0 where
   pub room : keeps.room_of old.keeps ≤ keeps.room_of new.keeps
 
 -- the node at a place, if there is one, has gone back, and the others are as before
-pub record IsBackAt (undo : Option KeepsUndo) (place : ℕ) (old new : List Node) : Type 0 where
+pub record IsBackAt (undo : Option KeepsUndo) (position : ℕ) (old new : List Node) : Type 0 where
   pub long : length new ≡ length old
-  pub others : (p : ℕ) → ¬ (p ≡ place) → slice_get new p ≡ slice_get old p
-  pub this : (a b : Node) → slice_get old place ≡ Some a → slice_get new place ≡ Some b → IsOneBack undo a b
+  pub others : (p : ℕ) → ¬ (p ≡ position) → slice_get new p ≡ slice_get old p
+  pub this : (a b : Node) → slice_get old position ≡ Some a → slice_get new position ≡ Some b
+      → IsOneBack undo a b

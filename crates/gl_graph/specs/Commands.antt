@@ -1,14 +1,14 @@
 -- Which commands suit which lists, and the edits of sources that they come to.
 use Rattle.std.specs.Prelude.{◌≡◌, ◌<◌, ◌≤◌, ⊤, ℕ, [], ◌∷◌, List, length, Option, None, Some}
-use Rattle.spec_value.specs.Tree.{Tree}
-use Rattle.gl_lines.specs.declared.plan.Command.{Command}
-use Rattle.gl_lines.specs.declared.plan.Command.TheVariants as c
-use Rattle.gl_lines.specs.declared.reply.Reply.TheVariants as reply
+use Rattle.spec_states.specs.Tree.{Tree}
+use Rattle.spec_states.specs.Command.{Command}
+use Rattle.spec_states.specs.Command.TheVariants as c
+use Rattle.spec_states.specs.Reply.TheVariants as reply
 use Rattle.gl_source.specs.declared.edit.Edit.{Edit}
 use Rattle.gl_source.specs.declared.edit.Edit.TheVariants as e
 use Rattle.gl_source.specs.declared.fault.EditFault.{EditFault}
 use Rattle.gl_source.specs.declared.fault.EditFault.TheVariants.{OutOfRange, TooLong, Memory}
-use Rattle.spec_views.specs.View.{View, filter, sorted, unique, grouping, range, function, collection, Parameter, matcher, order, bounds, func}
+use Rattle.spec_states.specs.View.{View, filter, sorted, unique, grouping, range, function, collection, Parameter, matcher, order, bounds, func}
 use Rattle.spec_states.specs.State.{Own, source, over}
 use Rattle.spec_states.specs.Step.{refused_by}
 use Rattle.spec_states.specs.Wave.{parameter_of, edited}

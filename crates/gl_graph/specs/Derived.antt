@@ -1,14 +1,14 @@
 -- What a list over one input keeps in a graph: the one file that goes by its kind.
 use Rattle.std.specs.Prelude.{◌≡◌, ◌≤◌, ◌+◌, ⊤, ℕ, List}
-use Rattle.spec_value.specs.Tree.{Tree}
-use Rattle.spec_lists.specs.Delta.{Delta}
-use Rattle.spec_lang.specs.Kind.{kind}
-use Rattle.spec_views.specs.View.{View, filter, range, function, Parameter, matcher}
-use Rattle.gl_filter.specs.Stands as filter_stands
-use Rattle.gl_filter.specs.Told.{asked, change_cost}
-use Rattle.gl_range.specs.Kept as range_kept
-use Rattle.gl_range.specs.Stands as range_stands
-use Rattle.gl_function.specs.Stands as function_stands
+use Rattle.spec_states.specs.Tree.{Tree}
+use Rattle.spec_states.specs.Delta.{Delta}
+use Rattle.spec_states.specs.Kind.{kind}
+use Rattle.spec_states.specs.View.{View, filter, range, function, Parameter, matcher}
+use Rattle.gl_kernels.specs.Stands as filter_stands
+use Rattle.gl_kernels.specs.Told.{asked, change_cost}
+use Rattle.gl_kernels.specs.Kept as range_kept
+use Rattle.gl_kernels.specs.RangeStands as range_stands
+use Rattle.gl_kernels.specs.FunctionStands as function_stands
 use Rattle.gl_graph.specs.declared.derived.Derived.{Derived}
 use Rattle.gl_graph.specs.declared.derived.Derived.TheVariants.{Filter, Range, Function}
 use Rattle.gl_graph.specs.declared.derived.DerivedUndo.{DerivedUndo}

@@ -1,6 +1,6 @@
 -- What a graph keeps.
 use Rattle.std.specs.Prelude.{◌≡◌, ◌<◌, ◌≤◌, ⊤, ℕ, List, length, slice_get, Some, None}
-use Rattle.spec_states.specs.State.{State, turns}
+use Rattle.spec_states.specs.State.{State, dependency_order}
 use Rattle.spec_states.specs.Step.{too_long}
 use Rattle.spec_states.specs.Laws.{IsOrdered}
 use Rattle.gl_graph.specs.declared.keeps.Keeps.{Keeps}
@@ -13,11 +13,11 @@ use Rattle.gl_graph.specs.Nodes as made
 pub record Kept : Type 0 where
   pub limit : ℕ
   pub nodes : List Node
-  pub places : List ℕ
+  pub positions : List ℕ
 
 -- the state that it is in
 abbrev pub state_of : Kept → State
-state_of k = made.state_of k.nodes k.places
+state_of k = made.state_of k.nodes k.positions
 
 -- a source may have so many elements
 abbrev pub IsLimited : ℕ → Keeps → Type 0
@@ -25,12 +25,13 @@ IsLimited limit (Source k) = k.limit ≡ limit
 IsLimited limit (Over input d) = ⊤
 
 -- Each list has its place, the nodes stand in the dependency order, each for what its input shows, and no list is too long.
-pub record IsGraph (limit : ℕ) (nodes : List Node) (places : List ℕ) : Type 0 where
-  pub few_lists : length places ≤ 256
+pub record IsGraph (limit : ℕ) (nodes : List Node) (positions : List ℕ) : Type 0 where
+  pub few_lists : length positions ≤ 256
   pub few : limit ≤ 2147483647
-  pub placed : (list : ℕ) → list < length places → IsPlaced nodes places list
-  pub ordered : IsOrdered (made.state_of nodes places)
-  pub order : turns (made.state_of nodes places) ≡ numbers nodes
-  pub settled : AreSettled nodes places
-  pub limited : (place : ℕ) (node : Node) → slice_get nodes place ≡ Some node → IsLimited limit node.keeps
-  pub within : too_long limit (made.state_of nodes places) ≡ None
+  pub placed : (list : ℕ) → list < length positions → IsPlaced nodes positions list
+  pub ordered : IsOrdered (made.state_of nodes positions)
+  pub order : dependency_order (made.state_of nodes positions) ≡ numbers nodes
+  pub settled : AreSettled nodes positions
+  pub limited : (position : ℕ) (node : Node) → slice_get nodes position ≡ Some node
+      → IsLimited limit node.keeps
+  pub within : too_long limit (made.state_of nodes positions) ≡ None

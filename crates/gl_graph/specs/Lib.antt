@@ -5,7 +5,7 @@ pub mod Undos
 pub mod Commands
 pub mod Graph
 pub mod Opening
-pub mod Places
+pub mod Positions
 pub mod Build
 pub mod Waves
 pub mod Backs

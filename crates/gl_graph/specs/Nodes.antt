@@ -1,7 +1,7 @@
 -- What the nodes of a graph keep and show.
 use Rattle.std.specs.Prelude.{◌≡◌, ◌<◌, ◌≤◌, ⊤, ℕ, List, [], length, map, take, slice_get, slice_index, Option, Some, None}
 use Rattle.std.specs.List.{range_with_len}
-use Rattle.spec_value.specs.Tree.{Tree}
+use Rattle.spec_states.specs.Tree.{Tree}
 use Rattle.spec_states.specs.State.{Own, State, source, over}
 use Rattle.spec_states.specs.Shown.{nothing_shown, settled, shows_in}
 use Rattle.gl_graph.specs.declared.keeps.Keeps.{Keeps}
@@ -46,38 +46,46 @@ own_of_node (Some node) = own_of node.keeps
 
 -- what the list of this number keeps, where each list has its place among the nodes
 abbrev pub own_in : List Node → List ℕ → ℕ → Own
-own_in nodes places list = own_of_node (slice_get nodes (slice_index places list))
+own_in nodes positions list = own_of_node (slice_get nodes (slice_index positions list))
 
 -- the state that the nodes make; lists whose nodes are missing are empty sources
 abbrev pub state_of : List Node → List ℕ → State
-state_of nodes places = map (own_in nodes places) (range_with_len 0 (length places))
+state_of nodes positions = map (own_in nodes positions) (range_with_len 0 (length positions))
 
 -- what a list shows by these nodes alone
 abbrev pub shown_by : List Node → List ℕ → ℕ → List Tree
-shown_by nodes places list =
-    shows_in (settled (state_of nodes places) (nothing_shown (state_of nodes places)) (numbers nodes)) list
+shown_by nodes positions list =
+    shows_in
+    (settled (state_of nodes positions) (nothing_shown (state_of nodes positions))
+    (numbers nodes)) list
 
 -- the list has its place among the nodes
-pub record IsPlaced (nodes : List Node) (places : List ℕ) (list : ℕ) : Type 0 where
-  pub within : list < length places
-  pub there : slice_get (numbers nodes) (slice_index places list) ≡ Some list
+pub record IsPlaced (nodes : List Node) (positions : List ℕ) (list : ℕ) : Type 0 where
+  pub within : list < length positions
+  pub there : slice_get (numbers nodes) (slice_index positions list) ≡ Some list
 
--- the node stands at its place, behind the list that it follows
-pub record IsInTurn (nodes : List Node) (places : List ℕ) (place : ℕ) (node : Node) : Type 0 where
-  pub within : node.list < length places
-  pub placed : slice_index places node.list ≡ place
-  pub behind : OnInput (IsPlaced (take place nodes) places) node.keeps
+-- the node stands at its place, after the list that it follows
+pub record IsInTurn (nodes : List Node) (positions : List ℕ) (position : ℕ) (node : Node) : Type 0
+  where
+    pub within : node.list < length positions
+    pub placed : slice_index positions node.list ≡ position
+    pub later : OnInput (IsPlaced (take position nodes) positions) node.keeps
 
 -- every node does
 abbrev pub AreInTurn : List Node → List ℕ → Type 0
-AreInTurn nodes places = (place : ℕ) (node : Node) → slice_get nodes place ≡ Some node → IsInTurn nodes places place node
+AreInTurn nodes positions =
+    (position : ℕ) (node : Node) → slice_get nodes position ≡ Some node
+    → IsInTurn nodes positions position node
 
 -- the node is in turn, and stands for what its input shows, within the limit of deltas
-pub record IsSettled (nodes : List Node) (places : List ℕ) (place : ℕ) (node : Node) : Type 0 where
-  pub turn : IsInTurn nodes places place node
-  pub stands : StandsFor node.keeps (shown_by nodes places)
-  pub few : length (shown_by nodes places node.list) ≤ 2147483647
+pub record IsSettled (nodes : List Node) (positions : List ℕ) (position : ℕ) (node : Node) : Type 0
+  where
+    pub turn : IsInTurn nodes positions position node
+    pub stands : StandsFor node.keeps (shown_by nodes positions)
+    pub few : length (shown_by nodes positions node.list) ≤ 2147483647
 
 -- every node is settled
 abbrev pub AreSettled : List Node → List ℕ → Type 0
-AreSettled nodes places = (place : ℕ) (node : Node) → slice_get nodes place ≡ Some node → IsSettled nodes places place node
+AreSettled nodes positions =
+    (position : ℕ) (node : Node) → slice_get nodes position ≡ Some node
+    → IsSettled nodes positions position node

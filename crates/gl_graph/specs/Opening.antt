@@ -1,8 +1,8 @@
 -- Which lists a graph opens, and why it doesn't.
 use Rattle.std.specs.Prelude.{◌≡◌, ◌<◌, ⊤, ℕ, List, slice_get, Some}
-use Rattle.gl_lines.specs.declared.plan.ListDecl.{ListDecl}
-use Rattle.gl_lines.specs.declared.plan.ListKind.{ListKind}
-use Rattle.gl_lines.specs.declared.plan.ListKind.TheVariants as kinds
+use Rattle.spec_states.specs.ListDecl.{ListDecl}
+use Rattle.spec_states.specs.ListKind.{ListKind}
+use Rattle.spec_states.specs.ListKind.TheVariants as kinds
 use Rattle.gl_source.specs.declared.fault.OpenFault.{OpenFault}
 use Rattle.gl_source.specs.declared.fault.OpenFault.TheVariants.{TooLong, Memory}
 

@@ -1,6 +1,6 @@
 -- What the undos of lists give back.
 use Rattle.std.specs.Prelude.{◌≡◌, ℕ, List, Option, Some, None}
-use Rattle.spec_value.specs.Tree.{Tree}
+use Rattle.spec_states.specs.Tree.{Tree}
 use Rattle.gl_source.specs.Stands as source
 use Rattle.gl_graph.specs.declared.keeps.Keeps.{Keeps}
 use Rattle.gl_graph.specs.declared.keeps.Keeps.TheVariants.{Source, Over}

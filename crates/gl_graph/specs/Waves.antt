@@ -1,9 +1,9 @@
 -- What a wave hands out: the delta of each list, and the way back.
 use Rattle.std.specs.Prelude.{◌≡◌, ◌<◌, ◌≤◌, ⊤, ℕ, List, [], ◌∷◌, length, map, fold, replicate, slice_get, slice_set, slice_index_or, Option, Some, None}
-use Rattle.spec_lists.specs.Delta.{Delta, no_change}
-use Rattle.gl_lines.specs.declared.plan.Command.{Command}
-use Rattle.gl_lines.specs.declared.reply.Reply.TheVariants as reply
-use Rattle.gl_delta.specs.Told.{Told}
+use Rattle.spec_states.specs.Delta.{Delta, no_change}
+use Rattle.spec_states.specs.Command.{Command}
+use Rattle.spec_states.specs.Reply.TheVariants as reply
+use Rattle.gl_source.specs.Model.{DeltaModel}
 use Rattle.spec_states.specs.State.{State}
 use Rattle.spec_states.specs.Shown.{shown}
 use Rattle.spec_states.specs.Wave.{command, delta_in, wave_deltas}
@@ -19,15 +19,16 @@ use Rattle.gl_graph.specs.Graph.{Kept, IsGraph}
 use Rattle.gl_graph.specs.Undos as keeps
 
 -- what is told of a list of so many elements: a delta, or nothing where nothing changes
-abbrev pub IsTold : ℕ → Delta → Option Told → Type 0
+abbrev pub IsTold : ℕ → Delta → Option DeltaModel → Type 0
 IsTold len delta None = delta ≡ no_change len
 IsTold len delta (Some d) = (d.pieces ≡ delta) × ¬ (d.pieces ≡ no_change len)
 
 -- of each list is told what the wave of a command does to it
-pub record AreTold (s : State) (c : Command) (told : List (Option Told)) : Type 0 where
+pub record AreTold (s : State) (c : Command) (told : List (Option DeltaModel)) : Type 0 where
   pub long : length told ≡ length s
   pub each : (list : ℕ) → list < length s
-      → IsTold (length (shown s list)) (delta_in (wave_deltas s (command c)) list) (slice_index_or told list None)
+      → IsTold (length (shown s list)) (delta_in (wave_deltas s (command c)) list)
+      (slice_index_or told list None)
 
 -- this is why a command makes no wave
 abbrev pub IsRefused : ℕ → State → Command → Refused → Type 0
@@ -41,7 +42,9 @@ contents_of nodes = map (λ (n : Node). keeps.contents n.keeps) nodes
 
 -- no list has lost room
 abbrev pub HaveRoomOf : List Node → List Node → Type 0
-HaveRoomOf old new = (place : ℕ) (a b : Node) → slice_get old place ≡ Some a → slice_get new place ≡ Some b → keeps.room_of a.keeps ≤ keeps.room_of b.keeps
+HaveRoomOf old new =
+    (position : ℕ) (a b : Node) → slice_get old position ≡ Some a → slice_get new position ≡ Some b
+    → keeps.room_of a.keeps ≤ keeps.room_of b.keeps
 
 -- what an undo makes of a list; without an undo it stays
 abbrev pub before_one : Option KeepsUndo → Keeps → keeps.Contents
@@ -52,7 +55,7 @@ abbrev pub CanGoBack : Option KeepsUndo → Keeps → Type 0
 CanGoBack None k = ⊤
 CanGoBack (Some undo) k = keeps.CanRetreat undo k
 
--- what undos, by place, make of the nodes; those behind the undos stay
+-- what undos, by place, make of the nodes; those after the undos stay
 abbrev pub before_all : List (Option KeepsUndo) → List Node → List keeps.Contents
 before_all undos [] = []
 before_all [] (n ∷ nodes) = keeps.contents n.keeps ∷ before_all [] nodes
@@ -73,13 +76,14 @@ abbrev pub put_undo : List (Option KeepsUndo) → ℕ × KeepsUndo → List (Opt
 put_undo undos made = slice_set undos made.0 (Some made.1)
 
 -- such undos by place, where there are n places
-abbrev pub by_place : ℕ → Made → List (Option KeepsUndo)
-by_place n made = fold put_undo (replicate n None) made
+abbrev pub by_position : ℕ → Made → List (Option KeepsUndo)
+by_position n made = fold put_undo (replicate n None) made
 
 -- each is at a place where there is none yet
 abbrev pub AreApartFrom : List (Option KeepsUndo) → Made → Type 0
 AreApartFrom undos [] = ⊤
-AreApartFrom undos (one ∷ made) = (slice_get undos one.0 ≡ Some None) × AreApartFrom (put_undo undos one) made
+AreApartFrom undos (one ∷ made) =
+    (slice_get undos one.0 ≡ Some None) × AreApartFrom (put_undo undos one) made
 
 abbrev pub AreApart : ℕ → Made → Type 0
 AreApart n made = AreApartFrom (replicate n None) made
@@ -89,23 +93,37 @@ pub record Contents : Type 0 where
   pub limit : ℕ
   pub numbers : List ℕ
   pub lists : List keeps.Contents
-  pub places : List ℕ
+  pub positions : List ℕ
 
 abbrev pub contents : Kept → Contents
-contents k = record { limit = k.limit; numbers = numbers k.nodes; lists = contents_of k.nodes; places = k.places }
+contents k =
+    record {
+      limit = k.limit;
+      numbers = numbers k.nodes;
+      lists = contents_of k.nodes;
+      positions =
+          k.positions;
+    }
 
 -- what an undo makes of a graph
 abbrev pub before : GraphUndo → Kept → Contents
-before undo k = record { limit = k.limit; numbers = numbers k.nodes; lists = before_all (by_place (length k.nodes) undo.made.items) k.nodes; places = k.places }
+before undo k =
+    record {
+      limit = k.limit;
+      numbers = numbers k.nodes;
+      lists =
+          before_all (by_position (length k.nodes) undo.made.items) k.nodes;
+      positions = k.positions;
+    }
 
 -- the undo is of the graph's last change: it leads back to what the graph was, and can be made
 pub record IsUndo (undo : GraphUndo) (old new : Kept) : Type 0 where
   pub back : before undo new ≡ contents old
-  pub can : CanAllGoBack (by_place (length new.nodes) undo.made.items) new.nodes
+  pub can : CanAllGoBack (by_position (length new.nodes) undo.made.items) new.nodes
   pub apart : AreApart (length new.nodes) undo.made.items
 
 -- the undo leads back to a graph, and can be made
 pub record CanRetreat (undo : GraphUndo) (k : Kept) : Type 0 where
   pub old : Kept
-  pub graph : IsGraph old.limit old.nodes old.places
+  pub graph : IsGraph old.limit old.nodes old.positions
   pub is : IsUndo undo old k

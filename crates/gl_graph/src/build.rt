@@ -10,29 +10,32 @@ ghost use Rattle.gl_graph.specs.Build.{IsOneMore, IsFault};
 use crate::fault::BuildFault;
 use crate::node::Node;
 use crate::open::opened;
-use gl_lines::ListKind;
+use gl_plan::{ListKind, Steps};
 use gl_source::OpenFault;
-use gl_value::Steps;
 use std::alloc::{AllocError, Global};
 use std::sync::ledger::Ledger;
 
-/// One list more behind those that are open.
+/// One list more after those that are open.
 pub(crate) fn open_next<L: Ledger>(
     alloc: Global,
     nodes: &mut Vec<Node>,
-    places: &[u32],
+    positions: &[u32],
     list: u32,
     kind: &ListKind,
     limit: u64,
     steps: &mut Steps<L>,
 ) -> Result<(), BuildFault>
-    requires settled { AreSettled nodes.old.items places.now }
-    requires built { IsBuilt (IsPlaced nodes.old.items places.now) kind.now }
+    requires settled { AreSettled nodes.old.items positions.now }
+    requires built { IsBuilt (IsPlaced nodes.old.items positions.now) kind.now }
     requires few { limit ≤ 2147483647 }
-    ensures more { OnOk result (IsOneMore limit places.now list (seen_through kind.now) nodes.old.items nodes.new.items) }
-    ensures fault { IfErr result (IsFault limit list (length (shown_of (seen_through kind.now) (shown_by nodes.old.items places.now)))) }
+    ensures more { OnOk result
+        (IsOneMore limit positions.now list (seen_through kind.now) nodes.old.items
+        nodes.new.items) }
+    ensures fault { IfErr result
+        (IsFault limit list
+        (length (shown_of (seen_through kind.now) (shown_by nodes.old.items positions.now)))) }
 {
-    match opened(alloc, kind, nodes.as_slice(), places, limit, steps) {
+    match opened(alloc, kind, nodes.as_slice(), positions, limit, steps) {
         Ok(keeps) => {
             push(nodes, Node { list, keeps })?;
             Ok(())

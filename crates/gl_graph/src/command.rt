@@ -1,13 +1,12 @@
 //! What a command is about, and the parameter that it gives.
 
 ghost use Rattle.std.specs.Prelude.{◌≡◌, Some};
-ghost use Rattle.spec_plans.specs.Plan.{origin as about};
-ghost use Rattle.spec_views.specs.View.{matcher as giving_matcher, bounds as giving_bounds, func as giving_func};
+ghost use Rattle.spec_states.specs.Plan.{origin as about};
+ghost use Rattle.spec_states.specs.View.{matcher as giving_matcher, bounds as giving_bounds, func as giving_func};
 ghost use Rattle.spec_states.specs.Wave.{parameter_of};
 ghost use Rattle.gl_graph.specs.Commands.{IsMatcher, IsBounds, IsFunc};
 
-use gl_lang::{Bounds, Func, Matcher};
-use gl_lines::Command;
+use gl_plan::{Bounds, Command, Func, Matcher};
 
 /// The number of the list that a command is about.
 pub(crate) fn about(command: &Command) -> u32

@@ -1,28 +1,24 @@
 //! A list over one input: all that goes by its kind.
 
 ghost use Rattle.std.specs.Prelude.{◌≡◌, ◌≤◌, ◌+◌, ℕ, List, Some, length, slice_get, IfOk, OnOk, OnErr};
-ghost use Rattle.spec_value.specs.Tree.{Tree};
-ghost use Rattle.spec_lists.specs.Leads.{LeadsTo, undone};
-ghost use Rattle.spec_lang.specs.Kind.{kind as kind_of};
-ghost use Rattle.spec_lang.specs.Matcher.{accepts};
-ghost use Rattle.spec_views.specs.Filter.{filter_change};
-ghost use Rattle.spec_views.specs.View.{view_of, follow_of, Parameter};
+ghost use Rattle.spec_states.specs.Tree.{Tree};
+ghost use Rattle.spec_states.specs.Leads.{LeadsTo, undone};
+ghost use Rattle.spec_states.specs.Kind.{kind as kind_of};
+ghost use Rattle.spec_states.specs.Matcher.{accepts};
+ghost use Rattle.spec_states.specs.Filter.{filter_change};
+ghost use Rattle.spec_states.specs.View.{view_of, follow_of, Parameter};
 ghost use Rattle.spec_states.specs.Wave.{parameter_of, parameter_change, view_after};
-ghost use Rattle.gl_filter.specs.Stands as filter_stands;
-ghost use Rattle.gl_filter.specs.Told.{change_cost};
-ghost use Rattle.gl_kernel.specs.Found.{found};
+ghost use Rattle.gl_kernels.specs.Stands as filter_stands;
+ghost use Rattle.gl_kernels.specs.Told.{change_cost};
+ghost use Rattle.gl_source.specs.Found.{found};
 ghost use Rattle.gl_graph.specs.Commands.{Gives};
 ghost use Rattle.gl_graph.specs.Derived.{view_of_derived, StandsFor, contents, room_of, before, CanRetreat, IsUndo, AsksOf, AsksFor};
 
 use crate::command::{bounds_of, func_of, matcher_of};
-use gl_delta::{Delta, Find};
-use gl_editor::kind;
-use gl_filter::{Filter, FilterUndo};
-use gl_function::{Function, FunctionUndo};
-use gl_lang::Matcher;
-use gl_lines::Command;
-use gl_range::{RangeKernel, RangeUndo};
-use gl_value::{Shelf, Steps};
+use gl_kernels::{
+    Delta, Filter, FilterUndo, Find, Function, FunctionUndo, RangeKernel, RangeUndo, kind,
+};
+use gl_plan::{Command, Matcher, Shelf, Steps};
 use std::alloc::{AllocError, Global};
 use std::sync::ledger::Ledger;
 
@@ -45,7 +41,8 @@ pub enum DerivedUndo {
 impl Derived {
     /// How many elements the list shows.
     pub fn len(&self) -> usize
-        ensures { (xs : List Tree) → StandsFor self.now xs → result ≡ length (view_of (view_of_derived self.now) xs) }
+        ensures { (xs : List Tree) → StandsFor self.now xs
+            → result ≡ length (view_of (view_of_derived self.now) xs) }
     {
         match self {
             Derived::Filter(filter) => filter.len(),
@@ -55,14 +52,14 @@ impl Derived {
     }
 
     /// Where the element that is shown at a place stands, or `None` exactly where the place isn't below the length.
-    pub fn find(&self, place: usize) -> Option<Find<'_>>
+    pub fn find(&self, position: usize) -> Option<Find<'_>>
         ensures { (xs : List Tree) → StandsFor self.now xs
-            → found result xs ≡ slice_get (view_of (view_of_derived self.now) xs) place }
+            → found result xs ≡ slice_get (view_of (view_of_derived self.now) xs) position }
     {
         match self {
-            Derived::Filter(filter) => filter.find(place),
-            Derived::Range(range) => range.find(place),
-            Derived::Function(function) => function.find(place),
+            Derived::Filter(filter) => filter.find(position),
+            Derived::Range(range) => range.find(position),
+            Derived::Function(function) => function.find(position),
         }
     }
 
@@ -176,9 +173,11 @@ fn change_filter<S: Shelf, L: Ledger>(
     ensures stands { OnOk result (filter_stands.StandsFor filter.new (S.items input.now)) }
     ensures matcher { OnOk result (filter.new.matcher ≡ matcher.now) }
     ensures undo { IfOk result (λ told. filter_stands.IsUndo told.1 filter.old filter.new) }
-    ensures err { OnErr result (filter_stands.contents filter.new ≡ filter_stands.contents filter.old) }
+    ensures err { OnErr result
+        (filter_stands.contents filter.new ≡ filter_stands.contents filter.old) }
     ensures room { filter.old.room ≤ filter.new.room }
-    ensures counted { steps.new ≤ steps.old + change_cost (kind_of filter.old.matcher matcher.now) filter.old.shown }
+    ensures counted { steps.new
+        ≤ steps.old + change_cost (kind_of filter.old.matcher matcher.now) filter.old.shown }
 {
     let kind = kind(filter.matcher(), matcher);
     filter.change(matcher.copy(alloc)?, kind, input, steps)

@@ -1,6 +1,6 @@
 //! Why the lists of a plan aren't opened.
 
-use gl_value::Memory;
+use gl_plan::Memory;
 use thiserror::Error;
 
 /// Why the lists of a plan aren't opened.

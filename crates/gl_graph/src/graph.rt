@@ -2,7 +2,7 @@
 
 ghost use Rattle.std.specs.Prelude.{◌≡◌, ◌<◌, None, Some, length, slice_get, IfOk, IfErr, OnOk, OnErr};
 ghost use Rattle.std.specs.Option.{option_copied};
-ghost use Rattle.spec_plans.specs.Plan.{origin as about};
+ghost use Rattle.spec_states.specs.Plan.{origin as about};
 ghost use Rattle.spec_states.specs.State.{own_at};
 ghost use Rattle.spec_states.specs.Shown.{shown};
 ghost use Rattle.spec_states.specs.Opening.{opening};
@@ -13,7 +13,7 @@ ghost use Rattle.gl_graph.specs.Graph.{state_of, IsGraph};
 ghost use Rattle.gl_graph.specs.Commands.{Suits};
 ghost use Rattle.gl_graph.specs.Opening.{AreKindsBuilt};
 ghost use Rattle.gl_graph.specs.Build.{IsReason};
-ghost use Rattle.gl_graph.specs.Waves.{AreTold, AreApart, IsRefused, IsUndo, CanRetreat, CanAllGoBack, HaveRoomOf, contents, contents_of, before, before_all, by_place};
+ghost use Rattle.gl_graph.specs.Waves.{AreTold, AreApart, IsRefused, IsUndo, CanRetreat, CanAllGoBack, HaveRoomOf, contents, contents_of, before, before_all, by_position};
 ghost use Rattle.gl_graph.specs.Backs.{CanGoBackAt, IsBackAt};
 
 use crate::command::about;
@@ -22,11 +22,9 @@ use crate::keeps::KeepsUndo;
 use crate::node::Node;
 use crate::seen::{element, shown_len};
 use crate::spread::spread_all;
-use crate::start::{open_all, turns_of};
-use gl_delta::Deltas;
-use gl_lines::Command;
-use gl_plan::Plan;
-use gl_value::{Memory, Steps, Value};
+use crate::start::{dependency_order_of, open_all};
+use gl_kernels::Deltas;
+use gl_plan::{Command, Memory, Plan, Steps, Value};
 use std::alloc::Global;
 use std::marker::Model;
 use std::sync::ledger::Ledger;
@@ -37,23 +35,23 @@ pub struct Graph {
     pub(crate) alloc: Global,
     pub(crate) limit: u64,
     pub(crate) nodes: Vec<Node>,
-    pub(crate) places: Vec<u32>,
+    pub(crate) positions: Vec<u32>,
 }
 
 impl Model for Graph {
     ghost use Rattle.std.specs.Coded.{codes};
-    ghost use Rattle.spec_value.specs.Code.{tree_code};
-    ghost use Rattle.spec_lang.specs.MatcherCode.{matcher_code};
-    ghost use Rattle.spec_lang.specs.FuncCode.{func_code};
+    ghost use Rattle.spec_states.specs.Code.{tree_code};
+    ghost use Rattle.spec_states.specs.MatcherCode.{matcher_code};
+    ghost use Rattle.spec_states.specs.FuncCode.{func_code};
     ghost use Rattle.gl_graph.specs.Graph.{Kept, IsGraph};
 
     ghost Value = { Kept };
 
     ghost coded = { Prim.hlevel (codes, tree_code, matcher_code, func_code) };
 
-    ghost view = { λ g. record { limit = g.limit; nodes = g.nodes.items; places = g.places.items } };
+    ghost view = { λ g. record { limit = g.limit; nodes = g.nodes.items; positions = g.positions.items } };
 
-    ghost invariant = { λ g. IsGraph g.limit g.nodes.items g.places.items };
+    ghost invariant = { λ g. IsGraph g.limit g.nodes.items g.positions.items };
 }
 
 /// What a command did: the delta of each list by number, none where it is the identity, and the way back.
@@ -102,13 +100,13 @@ impl Graph {
         ensures within { OnOk result (too_long plan.now.limit (opening plan.now) ≡ None) }
         ensures fault { IfErr result (IsReason plan.now.limit (opening plan.now)) }
     {
-        let turns = turns_of(alloc, plan)?;
-        let nodes = open_all(alloc, &turns)?;
+        let dependency_order = dependency_order_of(alloc, plan)?;
+        let nodes = open_all(alloc, &dependency_order)?;
         Ok(Graph {
             alloc,
-            limit: turns.limit,
+            limit: dependency_order.limit,
             nodes,
-            places: turns.places,
+            positions: dependency_order.positions,
         })
     }
 
@@ -116,24 +114,24 @@ impl Graph {
     pub fn len(&self, list: u32) -> usize
         ensures { result ≡ length (shown (state_of self.now) list) }
     {
-        if list as usize >= self.places.len() {
+        if list as usize >= self.positions.len() {
             return 0;
         }
-        shown_len(&self.nodes, &self.places, list)
+        shown_len(&self.nodes, &self.positions, list)
     }
 
     /// The element that a list shows at a place, or `None` exactly where there is none. It takes time logarithmic in
     /// the length of each list that the element comes by.
-    pub fn get(&self, list: u32, place: usize) -> Option<&Value>
-        ensures { option_copied result ≡ slice_get (shown (state_of self.now) list) place }
+    pub fn get(&self, list: u32, position: usize) -> Option<&Value>
+        ensures { option_copied result ≡ slice_get (shown (state_of self.now) list) position }
     {
-        if list as usize >= self.places.len() {
+        if list as usize >= self.positions.len() {
             return None;
         }
-        element(&self.nodes, &self.places, list, place)
+        element(&self.nodes, &self.positions, list, position)
     }
 
-    /// Takes a command to the list where its wave begins, and then to each list behind that which depends on one that
+    /// Takes a command to the list where its wave begins, and then to each list after that which depends on one that
     /// changed: wholly, or not at all. Lists before it aren't visited, and one that is told nothing is passed over. It
     /// takes memory for the changes.
     pub fn wave<L: Ledger>(
@@ -143,8 +141,10 @@ impl Graph {
     ) -> Result<Wave, Refused>
         requires within { about command.now < length (state_of self.old) }
         requires suits { Suits command.now (own_at (state_of self.old) (about command.now)) }
-        ensures moves { OnOk result (unmoved self.old.limit (state_of self.old) command.now ≡ None) }
-        ensures state { OnOk result (state_of self.new ≡ wave (state_of self.old) (made_by command.now)) }
+        ensures moves { OnOk result
+            (unmoved self.old.limit (state_of self.old) command.now ≡ None) }
+        ensures state { OnOk result
+            (state_of self.new ≡ wave (state_of self.old) (made_by command.now)) }
         ensures told { IfOk result (λ done. AreTold (state_of self.old) command.now done.deltas) }
         ensures undo { IfOk result (λ done. IsUndo done.undo self.old self.new) }
         ensures limit { self.new.limit ≡ self.old.limit }
@@ -152,12 +152,12 @@ impl Graph {
         ensures err { OnErr result (contents self.new ≡ contents self.old) }
         ensures room { HaveRoomOf self.old.nodes self.new.nodes }
     {
-        let mut deltas = Deltas::make(self.alloc, self.places.len() as u32)?;
+        let mut deltas = Deltas::make(self.alloc, self.positions.len() as u32)?;
         let mut made = Vec::new(self.alloc);
         match spread_all(
             self.alloc,
             &mut self.nodes,
-            self.places.as_slice(),
+            self.positions.as_slice(),
             self.limit,
             command,
             about(command),
@@ -188,7 +188,7 @@ impl Graph {
 
     /// What holds of each graph, for callers that keep its undos.
     pub fn law(&self)
-        ensures { IsGraph self.now.limit self.now.nodes self.now.places }
+        ensures { IsGraph self.now.limit self.now.nodes self.now.positions }
     {
         let _nodes = &self.nodes;
     }
@@ -196,24 +196,25 @@ impl Graph {
 
 // Takes back the changes of lists whose undos these are, the last one first.
 fn take_back(nodes: &mut Vec<Node>, mut made: Vec<(u32, KeepsUndo)>)
-    requires can { CanAllGoBack (by_place (length nodes.old.items) made.items) nodes.old.items }
+    requires can { CanAllGoBack (by_position (length nodes.old.items) made.items) nodes.old.items }
     requires apart { AreApart (length nodes.old.items) made.items }
-    ensures back { contents_of nodes.new.items ≡ before_all (by_place (length nodes.old.items) made.items) nodes.old.items }
+    ensures back { contents_of nodes.new.items
+        ≡ before_all (by_position (length nodes.old.items) made.items) nodes.old.items }
     ensures numbers { numbers nodes.new.items ≡ numbers nodes.old.items }
     ensures room { HaveRoomOf nodes.old.items nodes.new.items }
 {
-    'made: while let Some((place, undo)) = made.pop() {
-        go_back(nodes, place as usize, undo);
+    'made: while let Some((position, undo)) = made.pop() {
+        go_back(nodes, position as usize, undo);
     }
 }
 
 // Takes back the change of the list at a place.
 #[tactic(auto, using(crate::proofs::Taken::can_here, crate::proofs::Taken::back_here, crate::proofs::Taken::back_past))]
-fn go_back(nodes: &mut Vec<Node>, place: usize, undo: KeepsUndo)
-    requires { CanGoBackAt (Some undo) place nodes.old.items }
-    ensures { IsBackAt (Some undo) place nodes.old.items nodes.new.items }
+fn go_back(nodes: &mut Vec<Node>, position: usize, undo: KeepsUndo)
+    requires { CanGoBackAt (Some undo) position nodes.old.items }
+    ensures { IsBackAt (Some undo) position nodes.old.items nodes.new.items }
 {
-    if place < nodes.len() {
-        nodes[place].keeps.retreat(undo);
+    if position < nodes.len() {
+        nodes[position].keeps.retreat(undo);
     }
 }

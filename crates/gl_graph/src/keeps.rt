@@ -1,12 +1,12 @@
 //! What a list keeps.
 
 ghost use Rattle.std.specs.Prelude.{◌≡◌, ◌≤◌, ℕ, List, Some, None, length, slice_get, IfOk, IfErr, OnOk, OnErr};
-ghost use Rattle.spec_value.specs.Tree.{Tree};
-ghost use Rattle.spec_lists.specs.Leads.{LeadsTo, undone};
-ghost use Rattle.spec_views.specs.View.{follow_of};
+ghost use Rattle.spec_states.specs.Tree.{Tree};
+ghost use Rattle.spec_states.specs.Leads.{LeadsTo, undone};
+ghost use Rattle.spec_states.specs.View.{follow_of};
 ghost use Rattle.spec_states.specs.Shown.{shown_of};
 ghost use Rattle.spec_states.specs.Wave.{parameter_of, parameter_change, view_after};
-ghost use Rattle.gl_kernel.specs.Found.{found};
+ghost use Rattle.gl_source.specs.Found.{found};
 ghost use Rattle.gl_graph.specs.Derived.{view_of_derived};
 ghost use Rattle.gl_graph.specs.Derived as derived_keeps;
 ghost use Rattle.gl_graph.specs.Nodes.{own_of, StandsFor, OnInput, IsPlaced, AreSettled, input_of, input_shown, shown_by};
@@ -20,10 +20,9 @@ use crate::graph::Refused;
 use crate::node::Node;
 use crate::seen::see;
 use crate::source::edit_source;
-use gl_delta::{Delta, Deltas, Find};
-use gl_lines::Command;
+use gl_kernels::{Delta, Deltas, Find};
+use gl_plan::{Command, Shelf, Steps};
 use gl_source::{EditFault, SourceList, SourceUndo};
-use gl_value::{Shelf, Steps};
 use std::alloc::{AllocError, Global};
 use std::sync::ledger::Ledger;
 
@@ -54,7 +53,8 @@ impl Keeps {
 
     /// How many elements the list shows.
     pub fn len(&self) -> usize
-        ensures { (shows : ℕ → List Tree) → StandsFor self.now shows → result ≡ length (shown_of (own_of self.now) shows) }
+        ensures { (shows : ℕ → List Tree) → StandsFor self.now shows
+            → result ≡ length (shown_of (own_of self.now) shows) }
     {
         match self {
             Keeps::Source(source) => source.len(),
@@ -63,16 +63,16 @@ impl Keeps {
     }
 
     /// Where the element that is shown at a place stands: in the list itself, or at a place of what its input shows.
-    pub fn find(&self, place: usize) -> Option<Find<'_>>
+    pub fn find(&self, position: usize) -> Option<Find<'_>>
         ensures { (shows : ℕ → List Tree) → StandsFor self.now shows
-            → found result (input_shown self.now shows) ≡ slice_get (shown_of (own_of self.now) shows) place }
+            → found result (input_shown self.now shows) ≡ slice_get (shown_of (own_of self.now) shows) position }
     {
         match self {
-            Keeps::Source(source) => match source.get(place) {
+            Keeps::Source(source) => match source.get(position) {
                 Some(value) => Some(Find::Own(value)),
                 None => None,
             },
-            Keeps::Over { input: _, derived } => derived.find(place),
+            Keeps::Over { input: _, derived } => derived.find(position),
         }
     }
 
@@ -83,24 +83,25 @@ impl Keeps {
         alloc: Global,
         list: u32,
         start: u32,
-        front: &[Node],
-        places: &[u32],
+        prefix: &[Node],
+        positions: &[u32],
         command: &Command,
         deltas: &Deltas,
         steps: &mut Steps<L>,
     ) -> Result<Option<(Delta, KeepsUndo)>, Refused>
-        requires settled { AreSettled front.now places.now }
-        requires behind { OnInput (IsPlaced front.now places.now) self.old }
-        requires can { CanTurn (Some start) (shown_by front.now places.now) command.now deltas.now list self.old }
+        requires settled { AreSettled prefix.now positions.now }
+        requires later { OnInput (IsPlaced prefix.now positions.now) self.old }
+        requires can { CanTurn (Some start) (shown_by prefix.now positions.now) command.now
+            deltas.now list self.old }
         ensures ok { IfOk result
-            (IsStep (Some start) (shown_by front.now places.now) command.now deltas.now list self.old self.new) }
+            (IsStep (Some start) (shown_by prefix.now positions.now) command.now deltas.now list self.old self.new) }
         ensures err { OnErr result (contents self.new ≡ contents self.old) }
         ensures stopped { (limit : ℕ) → IsLimited limit self.old → IfErr result
-            (IsStopped limit (Some start) (shown_by front.now places.now) command.now deltas.now list (own_of self.old)) }
+            (IsStopped limit (Some start) (shown_by prefix.now positions.now) command.now deltas.now list (own_of self.old)) }
         ensures room { room_of self.old ≤ room_of self.new }
     {
         if list == start {
-            return match self.begin(alloc, list, front, places, command, deltas, steps) {
+            return match self.begin(alloc, list, prefix, positions, command, deltas, steps) {
                 Ok(done) => Ok(Some(done)),
                 Err(why) => Err(why),
             };
@@ -110,7 +111,7 @@ impl Keeps {
             Keeps::Over { input, derived } => match deltas.get(*input) {
                 None => Ok(None),
                 Some(d) => {
-                    let (out, undo) = follow(derived, front, places, *input, d, steps)?;
+                    let (out, undo) = follow(derived, prefix, positions, *input, d, steps)?;
                     Ok(Some((out, KeepsUndo::Over(undo))))
                 }
             },
@@ -122,20 +123,21 @@ impl Keeps {
         &mut self,
         alloc: Global,
         list: u32,
-        front: &[Node],
-        places: &[u32],
+        prefix: &[Node],
+        positions: &[u32],
         command: &Command,
         deltas: &Deltas,
         steps: &mut Steps<L>,
     ) -> Result<(Delta, KeepsUndo), Refused>
-        requires settled { AreSettled front.now places.now }
-        requires behind { OnInput (IsPlaced front.now places.now) self.old }
+        requires settled { AreSettled prefix.now positions.now }
+        requires later { OnInput (IsPlaced prefix.now positions.now) self.old }
         requires suits { Suits command.now (own_of self.old) }
-        requires stands { StandsFor self.old (shown_by front.now places.now) }
-        ensures ok { IfOk result (IsChanged (shown_by front.now places.now) command.now self.old self.new) }
+        requires stands { StandsFor self.old (shown_by prefix.now positions.now) }
+        ensures ok { IfOk result
+            (IsChanged (shown_by prefix.now positions.now) command.now self.old self.new) }
         ensures err { OnErr result (contents self.new ≡ contents self.old) }
         ensures stopped { (limit : ℕ) → IsLimited limit self.old → IfErr result
-            (IsStopped limit (Some list) (shown_by front.now places.now) command.now deltas.now list (own_of self.old)) }
+            (IsStopped limit (Some list) (shown_by prefix.now positions.now) command.now deltas.now list (own_of self.old)) }
         ensures room { room_of self.old ≤ room_of self.new }
     {
         match self {
@@ -144,7 +146,9 @@ impl Keeps {
                 Err(fault) => Err(refusal_of(list, fault)),
             },
             Keeps::Over { input, derived } => {
-                let (out, undo) = change(derived, alloc, command, front, places, *input, steps)?;
+                let (out, undo) = change(
+                    derived, alloc, command, prefix, positions, *input, steps,
+                )?;
                 Ok((out, KeepsUndo::Over(undo)))
             }
         }
@@ -174,50 +178,56 @@ fn change<L: Ledger>(
     derived: &mut Derived,
     alloc: Global,
     command: &Command,
-    front: &[Node],
-    places: &[u32],
+    prefix: &[Node],
+    positions: &[u32],
     input: u32,
     steps: &mut Steps<L>,
 ) -> Result<(Delta, DerivedUndo), AllocError>
-    requires settled { AreSettled front.now places.now }
-    requires placed { IsPlaced front.now places.now input }
+    requires settled { AreSettled prefix.now positions.now }
+    requires placed { IsPlaced prefix.now positions.now input }
     requires gives { Gives (view_of_derived derived.old) (parameter_of command.now) }
-    requires stands { derived_keeps.StandsFor derived.old (shown_by front.now places.now input) }
+    requires stands { derived_keeps.StandsFor derived.old
+        (shown_by prefix.now positions.now input) }
     ensures delta { IfOk result (λ told. told.0.pieces
-        ≡ parameter_change (parameter_of command.now) (view_of_derived derived.old) (shown_by front.now places.now input)) }
-    ensures stands { OnOk result (derived_keeps.StandsFor derived.new (shown_by front.now places.now input)) }
+        ≡ parameter_change (parameter_of command.now) (view_of_derived derived.old) (shown_by prefix.now positions.now input)) }
+    ensures stands { OnOk result
+        (derived_keeps.StandsFor derived.new (shown_by prefix.now positions.now input)) }
     ensures view { OnOk result
         (view_of_derived derived.new ≡ view_after (parameter_of command.now) (view_of_derived derived.old)) }
     ensures undo { IfOk result (λ told. derived_keeps.IsUndo told.1 derived.old derived.new) }
-    ensures err { OnErr result (derived_keeps.contents derived.new ≡ derived_keeps.contents derived.old) }
+    ensures err { OnErr result
+        (derived_keeps.contents derived.new ≡ derived_keeps.contents derived.old) }
     ensures room { derived_keeps.room_of derived.old ≤ derived_keeps.room_of derived.new }
 {
-    let shelf = see(front, places, input);
+    let shelf = see(prefix, positions, input);
     derived.change(alloc, command, &shelf, steps)
 }
 
 // A list follows a change of its input.
 fn follow<L: Ledger>(
     derived: &mut Derived,
-    front: &[Node],
-    places: &[u32],
+    prefix: &[Node],
+    positions: &[u32],
     input: u32,
     d: &Delta,
     steps: &mut Steps<L>,
 ) -> Result<(Delta, DerivedUndo), AllocError>
-    requires settled { AreSettled front.now places.now }
-    requires placed { IsPlaced front.now places.now input }
-    requires leads { LeadsTo d.now.pieces (shown_by front.now places.now input) }
-    requires stood { derived_keeps.StandsFor derived.old (undone d.now.pieces (shown_by front.now places.now input)) }
+    requires settled { AreSettled prefix.now positions.now }
+    requires placed { IsPlaced prefix.now positions.now input }
+    requires leads { LeadsTo d.now.pieces (shown_by prefix.now positions.now input) }
+    requires stood { derived_keeps.StandsFor derived.old
+        (undone d.now.pieces (shown_by prefix.now positions.now input)) }
     ensures delta { IfOk result (λ told. told.0.pieces
-        ≡ follow_of (view_of_derived derived.old) (undone d.now.pieces (shown_by front.now places.now input)) d.now.pieces) }
-    ensures stands { OnOk result (derived_keeps.StandsFor derived.new (shown_by front.now places.now input)) }
+        ≡ follow_of (view_of_derived derived.old) (undone d.now.pieces (shown_by prefix.now positions.now input)) d.now.pieces) }
+    ensures stands { OnOk result
+        (derived_keeps.StandsFor derived.new (shown_by prefix.now positions.now input)) }
     ensures view { OnOk result (view_of_derived derived.new ≡ view_of_derived derived.old) }
     ensures undo { IfOk result (λ told. derived_keeps.IsUndo told.1 derived.old derived.new) }
-    ensures err { OnErr result (derived_keeps.contents derived.new ≡ derived_keeps.contents derived.old) }
+    ensures err { OnErr result
+        (derived_keeps.contents derived.new ≡ derived_keeps.contents derived.old) }
     ensures room { derived_keeps.room_of derived.old ≤ derived_keeps.room_of derived.new }
 {
-    let shelf = see(front, places, input);
+    let shelf = see(prefix, positions, input);
     derived.advance(&shelf, d, steps)
 }
 

@@ -10,7 +10,7 @@ mod graph;
 mod keeps;
 mod node;
 mod open;
-mod place;
+mod position;
 mod seen;
 mod source;
 mod spread;
@@ -20,7 +20,7 @@ mod tests;
 
 pub use derived::{Derived, DerivedUndo};
 pub use fault::BuildFault;
-pub use gl_value::Memory;
+pub use gl_plan::Memory;
 pub use graph::{Graph, GraphUndo, Refused, Wave};
 pub use keeps::{Keeps, KeepsUndo};
 pub use node::Node;

@@ -1,7 +1,7 @@
 //! How a list opens.
 
 ghost use Rattle.std.specs.Prelude.{◌≡◌, ◌≤◌, ℕ, List, length, IfOk, IfErr, OnOk};
-ghost use Rattle.spec_value.specs.Tree.{Tree};
+ghost use Rattle.spec_states.specs.Tree.{Tree};
 ghost use Rattle.spec_states.specs.State.{source as sourcing};
 ghost use Rattle.spec_states.specs.Shown.{shown_of};
 ghost use Rattle.spec_states.specs.Opening.{seen_through};
@@ -13,34 +13,34 @@ use crate::derived::Derived;
 use crate::keeps::Keeps;
 use crate::node::Node;
 use crate::seen::see;
-use gl_filter::Filter;
-use gl_function::Function;
-use gl_lines::ListKind;
-use gl_range::RangeKernel;
+use gl_kernels::{Filter, Function, RangeKernel};
+use gl_plan::{ListKind, Steps, Values};
 use gl_source::{OpenFault, SourceList};
-use gl_value::{Steps, Values};
 use std::alloc::Global;
 use std::sync::ledger::Ledger;
 
-/// What a list keeps that opens behind the nodes at the front. It takes memory for that.
+/// What a list keeps that opens after the nodes at the front. It takes memory for that.
 pub(crate) fn opened<L: Ledger>(
     alloc: Global,
     kind: &ListKind,
-    front: &[Node],
-    places: &[u32],
+    prefix: &[Node],
+    positions: &[u32],
     limit: u64,
     steps: &mut Steps<L>,
 ) -> Result<Keeps, OpenFault>
-    requires settled { AreSettled front.now places.now }
-    requires built { IsBuilt (IsPlaced front.now places.now) kind.now }
+    requires settled { AreSettled prefix.now positions.now }
+    requires built { IsBuilt (IsPlaced prefix.now positions.now) kind.now }
     requires few { limit ≤ 2147483647 }
     ensures own { IfOk result (λ keeps. own_of keeps ≡ seen_through kind.now) }
-    ensures stands { IfOk result (λ keeps. StandsFor keeps (shown_by front.now places.now)) }
+    ensures stands { IfOk result (λ keeps. StandsFor keeps (shown_by prefix.now positions.now)) }
     ensures limited { IfOk result (IsLimited limit) }
-    ensures within { OnOk result (length (shown_of (seen_through kind.now) (shown_by front.now places.now)) ≤ limit) }
-    ensures over { IfErr result (IsOver limit (length (shown_of (seen_through kind.now) (shown_by front.now places.now)))) }
+    ensures within { OnOk result
+        (length (shown_of (seen_through kind.now) (shown_by prefix.now positions.now)) ≤ limit) }
+    ensures over { IfErr result
+        (IsOver limit
+        (length (shown_of (seen_through kind.now) (shown_by prefix.now positions.now)))) }
 {
-    let keeps = made(alloc, kind, front, places, limit, steps)?;
+    let keeps = made(alloc, kind, prefix, positions, limit, steps)?;
     let len = keeps.len();
     if len as u64 > limit {
         return Err(OpenFault::TooLong { len: len as u128 });
@@ -52,33 +52,35 @@ pub(crate) fn opened<L: Ledger>(
 fn made<L: Ledger>(
     alloc: Global,
     kind: &ListKind,
-    front: &[Node],
-    places: &[u32],
+    prefix: &[Node],
+    positions: &[u32],
     limit: u64,
     steps: &mut Steps<L>,
 ) -> Result<Keeps, OpenFault>
-    requires settled { AreSettled front.now places.now }
-    requires built { IsBuilt (IsPlaced front.now places.now) kind.now }
+    requires settled { AreSettled prefix.now positions.now }
+    requires built { IsBuilt (IsPlaced prefix.now positions.now) kind.now }
     requires few { limit ≤ 2147483647 }
     ensures own { IfOk result (λ keeps. own_of keeps ≡ seen_through kind.now) }
-    ensures stands { IfOk result (λ keeps. StandsFor keeps (shown_by front.now places.now)) }
+    ensures stands { IfOk result (λ keeps. StandsFor keeps (shown_by prefix.now positions.now)) }
     ensures limited { IfOk result (IsLimited limit) }
-    ensures over { IfErr result (IsOver limit (length (shown_of (seen_through kind.now) (shown_by front.now places.now)))) }
+    ensures over { IfErr result
+        (IsOver limit
+        (length (shown_of (seen_through kind.now) (shown_by prefix.now positions.now)))) }
 {
     match kind {
         ListKind::Source { rows } => source_of(alloc, rows, limit),
         ListKind::Filter { input, matcher } => {
-            let shelf = see(front, places, *input);
+            let shelf = see(prefix, positions, *input);
             let filter = Filter::make(alloc, matcher.copy(alloc)?, &shelf, steps)?;
             Ok(over(*input, Derived::Filter(filter)))
         }
         ListKind::Range { input, bounds } => {
-            let shelf = see(front, places, *input);
+            let shelf = see(prefix, positions, *input);
             let range = RangeKernel::make(alloc, *bounds, &shelf, steps)?;
             Ok(over(*input, Derived::Range(range)))
         }
         ListKind::Function { input, func } => {
-            let shelf = see(front, places, *input);
+            let shelf = see(prefix, positions, *input);
             let function = Function::make(alloc, func.copy(alloc)?, &shelf, steps)?;
             Ok(over(*input, Derived::Function(function)))
         }

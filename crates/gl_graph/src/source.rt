@@ -5,10 +5,9 @@ ghost use Rattle.gl_source.specs.Stands.{IsUndo};
 ghost use Rattle.spec_states.specs.Wave.{edit as told_by, edited};
 ghost use Rattle.gl_graph.specs.Commands.{IsEdit, IsMade, IsWhy, edit_for};
 
-use gl_delta::Delta;
-use gl_lines::Command;
+use gl_kernels::Delta;
+use gl_plan::{Command, Value, Values};
 use gl_source::{Edit, EditFault, SourceList, SourceUndo};
-use gl_value::{Value, Values};
 use std::alloc::{AllocError, Global};
 
 /// Edits a source by a command. An edit of one element takes time logarithmic in the length, another one that for each

@@ -1,6 +1,6 @@
 ghost use Rattle.std.specs.Prelude.{◌≡◌, ◌≤◌, All, IsTrue, IfOk, OnOk};
-ghost use Rattle.spec_syntax.specs.Proper.{IsBounds, IsFunc};
-ghost use Rattle.spec_lines.specs.Within.{IsNamed, IsWithin};
+ghost use Rattle.gl_plan.specs.Proper.{IsBounds, IsFunc};
+ghost use Rattle.gl_plan.specs.Within.{IsNamed, IsWithin};
 ghost use Rattle.spec_states.specs.Opening.{opening};
 ghost use Rattle.gl_graph.specs.Graph.{state_of};
 ghost use Rattle.gl_graph.specs.Opening.{IsKindBuilt, AreKindsBuilt};
@@ -10,12 +10,11 @@ mod told;
 mod waves;
 
 use crate::{BuildFault, Graph};
-use gl_lang::{Bounds, Func, Matcher, Path, Test};
-use gl_lines::{Line, Lines, ListDecl, ListKind, Named, NumberedLine};
-use gl_names::Name;
-use gl_plan::Plan;
+use gl_plan::{
+    Bounds, Func, Items, Line, Lines, ListDecl, ListKind, Matcher, Name, Named, NumberedLine, Path,
+    Plan, Test, Text, Value,
+};
 use gl_testing::is_number;
-use gl_value::{Items, Text, Value};
 use std::alloc::Global;
 use std::process::Abort;
 
@@ -135,7 +134,7 @@ fn ten_more(rt: &(impl Abort + AllocGlobal), lines: &mut Lines, name: &[u8], inp
     );
 }
 
-// Those above one of the last two of 1, 2 and 3, each declared before what it depends on; behind them ten more than
+// Those above one of the last two of 1, 2 and 3, each declared before what it depends on; after them ten more than
 // each of these, and the first of them.
 fn five(rt: &(impl Abort + AllocGlobal)) -> Lines
     ensures { All (λ l. IsWithin l.what) result }
@@ -189,10 +188,10 @@ fn built(rt: &(impl Abort + AllocGlobal), plan: &Plan) -> Result<Graph, BuildFau
 }
 
 fn shows(graph: &Graph, list: u32, rows: &[i64]) -> bool {
-    for place in 0..rows.len() {
-        match graph.get(list, place) {
+    for position in 0..rows.len() {
+        match graph.get(list, position) {
             Some(value) => {
-                if !is_number(value, rows[place]) {
+                if !is_number(value, rows[position]) {
                     return false;
                 }
             }
@@ -203,7 +202,7 @@ fn shows(graph: &Graph, list: u32, rows: &[i64]) -> bool {
 }
 
 #[test]
-fn lists_open_behind_what_they_depend_on(rt: HostRuntime) {
+fn lists_open_after_what_they_depend_on(rt: HostRuntime) {
     match built(&rt, &planned(&rt, five(&rt))) {
         Ok(graph) => {
             assert!(rt; shows(&graph, 0, &[2, 3]));

@@ -1,8 +1,8 @@
-pub mod Playing
-pub mod Naming
-pub mod Fating
-pub mod Spreading
-pub mod Making
-pub mod Leading
-pub mod Pairing
-pub mod Reading
+pub mod Play
+pub mod Names
+pub mod Fates
+pub mod Spreads
+pub mod Made
+pub mod Leads
+pub mod Pairs
+pub mod ReadValues

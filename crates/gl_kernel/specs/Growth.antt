@@ -8,7 +8,8 @@ use Rattle.gl_kernel.specs.declared.log_step.LogStep.{LogStep}
 use Rattle.gl_kernel.specs.declared.log_step.LogStep.TheVariants.{Insert, Remove, Set}
 use Rattle.gl_kernel.specs.Edits.{edited, IsWithin}
 
-pub length_grows : {T : Type 0} (e : LogStep T) (xs : List T) → IsWithin e xs → length (edited e xs) ≤ length xs + 1
+pub length_grows : {T : Type 0} (e : LogStep T) (xs : List T) → IsWithin e xs
+    → length (edited e xs) ≤ length xs + 1
 length_grows (Insert at x) xs h = omega (arith, length-insert xs at x h)
 length_grows (Remove at) xs h = omega (arith, length-remove xs at h)
 length_grows (Set at x) xs h = omega (arith, length-set xs at x)
@@ -25,7 +26,8 @@ first_less : (b : Bool) (bs : List Bool) → stretch_count bs ≤ stretch_count 
 unfolding stretch_count
 first_less b bs = omega arith
 
-insert_grows : (bs : List Bool) (at : ℕ) (x : Bool) → stretch_count (insert bs at x) ≤ stretch_count bs + 2
+insert_grows : (bs : List Bool) (at : ℕ) (x : Bool)
+    → stretch_count (insert bs at x) ≤ stretch_count bs + 2
 unfolding stretch_count
 insert_grows bs zero x = omega (arith, first_more x bs)
 insert_grows [] (suc at) x = omega (arith, first_more x [])
@@ -34,10 +36,13 @@ insert_grows (b ∷ []) (suc at) x = omega (arith, one at, first_more b (x ∷ [
     one : (k : ℕ) → stretch_count (b ∷ insert [] k x) ≤ stretch_count (b ∷ x ∷ [])
     one zero = omega arith
     one (suc k) = omega arith
-insert_grows (b ∷ c ∷ cs) (suc zero) x = omega (arith, first_more b (x ∷ c ∷ cs), first_more x (c ∷ cs), first_less b (c ∷ cs))
+insert_grows (b ∷ c ∷ cs) (suc zero) x =
+    omega (arith, first_more b (x ∷ c ∷ cs), first_more x (c ∷ cs), first_less b (c ∷ cs))
 insert_grows (b ∷ c ∷ cs) (suc (suc at)) x = omega (arith, insert_grows (c ∷ cs) (suc at) x)
 
-swap : (b c d : Bool) (ds : List Bool) → cond (begins_alike b (d ∷ ds)) 0 1 ≤ cond (begins_alike b (c ∷ d ∷ ds)) 0 1 + cond (begins_alike c (d ∷ ds)) 0 1
+swap : (b c d : Bool) (ds : List Bool)
+    → cond (begins_alike b (d ∷ ds)) 0 1
+    ≤ cond (begins_alike b (c ∷ d ∷ ds)) 0 1 + cond (begins_alike c (d ∷ ds)) 0 1
 swap true true d ds = omega arith
 swap true false true ds = omega arith
 swap true false false ds = omega arith
@@ -45,7 +50,8 @@ swap false true true ds = omega arith
 swap false true false ds = omega arith
 swap false false d ds = omega arith
 
-second_removed : (b c d : Bool) (ds : List Bool) → stretch_count (b ∷ d ∷ ds) ≤ stretch_count (b ∷ c ∷ d ∷ ds)
+second_removed : (b c d : Bool) (ds : List Bool)
+    → stretch_count (b ∷ d ∷ ds) ≤ stretch_count (b ∷ c ∷ d ∷ ds)
 unfolding stretch_count
 second_removed b c d ds = omega (arith, swap b c d ds)
 
@@ -60,15 +66,18 @@ remove_grows (b ∷ c ∷ []) (suc zero) = omega (arith, at_most_one (same b c))
 remove_grows (b ∷ c ∷ d ∷ ds) (suc zero) = second_removed b c d ds
 remove_grows (b ∷ c ∷ cs) (suc (suc at)) = omega (arith, remove_grows (c ∷ cs) (suc at))
 
-set_grows : (bs : List Bool) (at : ℕ) (x : Bool) → stretch_count (slice_set bs at x) ≤ stretch_count bs + 2
+set_grows : (bs : List Bool) (at : ℕ) (x : Bool)
+    → stretch_count (slice_set bs at x) ≤ stretch_count bs + 2
 unfolding stretch_count
 set_grows [] at x = omega arith
 set_grows (b ∷ bs) zero x = omega (arith, first_more x bs, first_less b bs)
 set_grows (b ∷ []) (suc at) x = omega arith
-set_grows (b ∷ c ∷ cs) (suc zero) x = omega (arith, first_more b (x ∷ cs), first_more x cs, first_less c cs, first_less b (c ∷ cs))
+set_grows (b ∷ c ∷ cs) (suc zero) x =
+    omega (arith, first_more b (x ∷ cs), first_more x cs, first_less c cs, first_less b (c ∷ cs))
 set_grows (b ∷ c ∷ cs) (suc (suc at)) x = omega (arith, set_grows (c ∷ cs) (suc at) x)
 
-pub stretches_grow : (e : LogStep Bool) (xs : List Bool) → IsWithin e xs → stretch_count (edited e xs) ≤ stretch_count xs + 2
+pub stretches_grow : (e : LogStep Bool) (xs : List Bool) → IsWithin e xs
+    → stretch_count (edited e xs) ≤ stretch_count xs + 2
 stretches_grow (Insert at x) xs h = insert_grows xs at x
 stretches_grow (Remove at) xs h = omega (arith, remove_grows xs at)
 stretches_grow (Set at x) xs h = set_grows xs at x

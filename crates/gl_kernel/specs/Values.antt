@@ -10,7 +10,9 @@ pub record Stored : Type 0 where
   pub room : ℕ
 
 abbrev pub stored_code : Coded Stored
-stored_code = code_by (List Tree × ℕ) (coded× (coded_list tree_code) coded_ℕ) (λ s. (s.values, s.room)) (λ p. record { values = p.0; room = p.1 }) (λ _. refl)
+stored_code =
+    code_by (List Tree × ℕ) (coded× (coded_list tree_code) coded_ℕ) (λ s. (s.values, s.room))
+    (λ p. record { values = p.0; room = p.1 }) (λ _. refl)
 
 -- the items under their handles, without these
 abbrev pub unnamed : {T : Type 0} → List (ℕ × T) → List T

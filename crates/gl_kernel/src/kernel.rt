@@ -2,7 +2,7 @@
 
 ghost use Rattle.std.specs.Prelude.{◌≡◌, ◌≤◌, List, length, map, slice_get, IfOk, OnOk, OnErr};
 ghost use Rattle.spec_value.specs.Tree.{Tree};
-ghost use Rattle.spec_lists.specs.Piece.{turned};
+ghost use Rattle.spec_lists.specs.Piece.{inverted};
 ghost use Rattle.spec_lists.specs.Leads.{LeadsTo, applied};
 ghost use Rattle.gl_kernel.specs.Found.{found};
 
@@ -68,9 +68,10 @@ pub trait Kernel {
         steps: &mut Steps<L>,
     ) -> Result<(Delta, Self::Undo), AllocError>
         requires leads { LeadsTo d.now.pieces (S.items input.now) }
-        requires stands { stands_for self.old (applied (map turned d.now.pieces) (S.items input.now)) }
+        requires stands { stands_for self.old
+            (applied (map inverted d.now.pieces) (S.items input.now)) }
         ensures pieces { IfOk result (λ told. told.0.pieces
-            ≡ follow (shows_by self.old) (applied (map turned d.now.pieces) (S.items input.now)) d.now.pieces) }
+            ≡ follow (shows_by self.old) (applied (map inverted d.now.pieces) (S.items input.now)) d.now.pieces) }
         ensures stands { OnOk result (stands_for self.new (S.items input.now)) }
         ensures undo { IfOk result (λ told. is_undo told.1 self.old self.new) }
         ensures err { OnErr result (is_same self.old self.new) }
@@ -101,10 +102,11 @@ pub trait Kernel {
 
     /// How many elements are shown.
     fn len(&self) -> usize
-        ensures { (xs : List Tree) → stands_for self.now xs → result ≡ length (view (shows_by self.now) xs) };
+        ensures { (xs : List Tree) → stands_for self.now xs
+            → result ≡ length (view (shows_by self.now) xs) };
 
     /// Where the element that is shown at a place stands, `None` where no more are shown.
-    fn find(&self, place: usize) -> Option<Find<'_>>
+    fn find(&self, position: usize) -> Option<Find<'_>>
         ensures { (xs : List Tree) → stands_for self.now xs
-            → found result xs ≡ slice_get (view (shows_by self.now) xs) place };
+            → found result xs ≡ slice_get (view (shows_by self.now) xs) position };
 }

@@ -1,5 +1,5 @@
 //! What the lists that follow others are made of: lists that a log of edits changes and changes back without memory, and
-//! the building of the deltas that they tell. Each edit that is made leaves behind the one that takes it back.
+//! the building of the deltas that they tell. Each edit that is made leaves after the one that takes it back.
 #![tactic(auto)]
 
 mod barcodes;
@@ -12,6 +12,7 @@ mod plan;
 mod telling;
 
 pub use editable::Editable;
+pub use gl_delta::{Delta, Deltas, Find};
 pub use gl_value::Memory;
 pub use kernel::Kernel;
 pub use list::ValueList;

@@ -43,9 +43,9 @@ impl Shelf for ValueList {
         self.list.len()
     }
 
-    fn get(&self, place: usize) -> Option<&Value> {
+    fn get(&self, position: usize) -> Option<&Value> {
         let _len = self.list.len();
-        match self.list.at(place) {
+        match self.list.at(position) {
             Some(handle) => Some(self.list.item(handle)),
             None => None,
         }

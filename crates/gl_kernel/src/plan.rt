@@ -12,7 +12,7 @@ use std::alloc::Global;
 pub struct Plan<T> {
     pub out: Delta,
     pub log: Vec<LogStep<T>>,
-    pub place: usize,
+    pub position: usize,
 }
 
 impl<T> Plan<T> {
@@ -20,22 +20,22 @@ impl<T> Plan<T> {
     pub fn new(alloc: Global) -> Plan<T>
         ensures out { result.out.pieces ≡ [] }
         ensures log { result.log.items ≡ [] }
-        ensures place { result.place ≡ 0 }
+        ensures position { result.position ≡ 0 }
     {
         Plan {
             out: Delta::start(alloc),
             log: Vec::new(alloc),
-            place: 0,
+            position: 0,
         }
     }
 }
 
 /// The element at a place of a shelf.
-pub fn element<S: Shelf>(input: &S, place: usize) -> &Value
-    requires { place < length (S.items input.now) }
-    ensures { slice_get (S.items input.now) place ≡ Some result.now }
+pub fn element<S: Shelf>(input: &S, position: usize) -> &Value
+    requires { position < length (S.items input.now) }
+    ensures { slice_get (S.items input.now) position ≡ Some result.now }
 {
-    match input.get(place) {
+    match input.get(position) {
         Some(value) => value,
         None => unreachable!(),
     }

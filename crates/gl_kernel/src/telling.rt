@@ -30,8 +30,12 @@ pub fn tell_update(
     old: &Value,
     new: &Value,
 ) -> Result<(), AllocError>
-    requires { CanTell (told_of_pair was is (updated old.now new.now) old.now new.now []) out.old.pieces }
-    ensures { OnOk result (out.new.pieces ≡ normal (out.old.pieces ++ told_of_pair was is (updated old.now new.now) old.now new.now [])) }
+    requires { CanTell (told_of_pair was is (updated old.now new.now) old.now new.now [])
+        out.old.pieces }
+    ensures { OnOk result
+        (out.new.pieces
+        ≡ normal
+        (out.old.pieces ++ told_of_pair was is (updated old.now new.now) old.now new.now [])) }
 {
     match (was, is) {
         (true, true) => tell(out, Cell::Update(old.copy()?, new.copy()?)),
@@ -44,7 +48,9 @@ pub fn tell_update(
 /// What is told of an element that stays, by whether it was shown and is shown.
 pub fn tell_kept(out: &mut Delta, was: bool, is: bool, value: &Value) -> Result<(), AllocError>
     requires { CanTell (told_of_pair was is kept value.now value.now []) out.old.pieces }
-    ensures { OnOk result (out.new.pieces ≡ normal (out.old.pieces ++ told_of_pair was is kept value.now value.now [])) }
+    ensures { OnOk result
+        (out.new.pieces
+        ≡ normal (out.old.pieces ++ told_of_pair was is kept value.now value.now [])) }
 {
     match (was, is) {
         (true, true) => tell(out, Cell::Keep(1)),

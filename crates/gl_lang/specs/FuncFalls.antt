@@ -8,7 +8,8 @@ use Rattle.gl_lang.specs.declared.func.Node.{Node}
 use Rattle.gl_lang.specs.declared.func.Node.TheVariants.{At, Num, Text, Count, Sum, Add, Items}
 use Rattle.gl_lang.specs.declared.func.Func.TheDeep.{deep-Node}
 
-pub most_le-funcs_size : (fs : List spec.Func) → most (λ f. spec.func_size f + 1) fs ≤ spec.funcs_size (spec.funcs fs)
+pub most_le-funcs_size : (fs : List spec.Func)
+    → most (λ f. spec.func_size f + 1) fs ≤ spec.funcs_size (spec.funcs fs)
 most_le-funcs_size [] = omega arith
 most_le-funcs_size (f ∷ fs) = omega (arith, most_le-funcs_size fs)
 

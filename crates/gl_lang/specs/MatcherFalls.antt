@@ -8,7 +8,8 @@ use Rattle.gl_lang.specs.declared.matcher.Node.{Node}
 use Rattle.gl_lang.specs.declared.matcher.Node.TheVariants.{All, Nothing, Is, Not, And, Or}
 use Rattle.gl_lang.specs.declared.matcher.Matcher.TheDeep.{deep-Node}
 
-pub most_le-matchers_size : (ms : List spec.Matcher) → most (λ m. spec.matcher_size m + 1) ms ≤ spec.matchers_size (spec.matchers ms)
+pub most_le-matchers_size : (ms : List spec.Matcher)
+    → most (λ m. spec.matcher_size m + 1) ms ≤ spec.matchers_size (spec.matchers ms)
 most_le-matchers_size [] = omega arith
 most_le-matchers_size (m ∷ ms) = omega (arith, most_le-matchers_size ms)
 

@@ -46,7 +46,7 @@ impl Model for Order {
 
 impl Compare for Order {
     ghost use Rattle.spec_lang.specs.Sorting.{order_cmp};
-    ghost use Rattle.spec_lang.proofs.SortingLaws.{order_cmp_total};
+    ghost use Rattle.spec_lang.proofs.Sortings.{order_cmp_total};
 
     ghost order = { order_cmp };
 

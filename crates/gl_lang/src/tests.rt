@@ -119,21 +119,12 @@ fn comparisons(rt: HostRuntime) -> Result<(), Fail> {
     Ok(())
 }
 
-fn put<T: Drop>(list: &mut Items<T>, item: T) -> Result<(), AllocError>
-    ensures { OnOk result (list.new ≡ list.old ++ item ∷ []) }
-{
-    match list.push(item) {
-        Ok(()) => Ok(()),
-        Err((_, e)) => Err(e),
-    }
-}
-
 fn two(alloc: Global, first: Matcher, second: Matcher) -> Result<Matchers, AllocError>
     ensures { IfOk result (λ parts. length parts ≡ 2) }
 {
     let mut parts = Matchers::new(alloc);
-    put(&mut parts, first)?;
-    put(&mut parts, second)?;
+    parts.add(first)?;
+    parts.add(second)?;
     Ok(parts)
 }
 
@@ -158,8 +149,8 @@ fn key(alloc: Global, step: u16, down: bool) -> Result<Key, AllocError> {
 
 fn by(alloc: Global, first: Key, second: Key) -> Result<Order, AllocError> {
     let mut keys = Keys::new(alloc);
-    put(&mut keys, first)?;
-    put(&mut keys, second)?;
+    keys.add(first)?;
+    keys.add(second)?;
     Ok(Order { keys })
 }
 
@@ -255,9 +246,9 @@ fn functions_make_lists(rt: HostRuntime) -> Result<(), Fail> {
     let alloc = rt.alloc();
     let row = row(alloc)?;
     let mut parts = Funcs::new(alloc);
-    put(&mut parts, Func::at(path(alloc, &[2])?))?;
-    put(&mut parts, Func::at(path(alloc, &[1, 1])?))?;
-    put(&mut parts, Func::num(3))?;
+    parts.add(Func::at(path(alloc, &[2])?))?;
+    parts.add(Func::at(path(alloc, &[1, 1])?))?;
+    parts.add(Func::num(3))?;
     let made = Func::items(parts).eval(alloc, &row)?;
     let mut want = Values::new(alloc);
     add(&mut want, numbers(alloc, &[4, 5])?)?;

@@ -10,6 +10,7 @@ mod plan;
 mod reply;
 
 pub use fault::{Misplaced, PlanKind};
+pub use gl_publisher::Numbers;
 pub use line::{Line, Lines, NumberedLine};
 pub use named::{Named, NamedList};
 pub use plan::{Command, ListDecl, ListKind, ListenerDecl};

@@ -1,7 +1,6 @@
 //! Names, as they stand in lines.
 
-use gl_names::Name;
-use gl_value::Items;
+use gl_value::{Items, Name};
 
 /// A name in a line. The column is that of its first byte, in bytes from 1 on; it says nothing of what the line means.
 #[derive(Drop)]

@@ -1,9 +1,8 @@
 //! What a plan declares, and what its writers ask for.
 
 use gl_lang::{Bounds, Func, Kids, Matcher, Order};
-use gl_names::Name;
 use gl_publisher::Numbers;
-use gl_value::{Value, Values};
+use gl_value::{Name, Value, Values};
 
 /// What a list is, with what it opens with. Other lists are named by their numbers.
 #[derive(Drop)]

@@ -1,3 +1,3 @@
-pub mod Linking
-pub mod Searching
-pub mod Editing
+pub mod Links
+pub mod SearchBounds
+pub mod Edits

@@ -4,8 +4,8 @@
 //! key, each in logarithmic time.
 #![tactic(auto)]
 
-mod front;
 mod placed;
+mod prefix;
 mod search;
 mod spot;
 #[cfg(test)]

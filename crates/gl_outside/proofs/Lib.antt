@@ -1,3 +1,3 @@
-pub mod FaultLemmas
-mod SinkLemmas
-pub mod SourceLemmas
+pub mod Faults
+mod Sinks
+pub mod Sources

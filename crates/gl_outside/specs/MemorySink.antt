@@ -15,4 +15,5 @@ pub record SinkState : Type 0 where
 -- the sink after it was given a piece: what fits was taken
 abbrev pub after_give : SinkState → List ℕ → Given → SinkState
 after_give s piece All = record s { bytes = s.bytes ++ piece }
-after_give s piece Failed = record s { bytes = s.bytes ++ take (s.room - length s.bytes) piece; faults = one_more s.faults }
+after_give s piece Failed =
+    record s { bytes = s.bytes ++ take (s.room - length s.bytes) piece; faults = one_more s.faults }

@@ -4,7 +4,7 @@ use Rattle.gl_outside.specs.declared.source.Taken.{Taken}
 use Rattle.gl_outside.specs.declared.source.Taken.TheVariants.{Some, End, Failed}
 use Rattle.gl_outside.specs.Faults.{one_more}
 
--- the bytes that were taken stand at the front of the room
+-- the bytes that were taken stand at the beginning of the room
 abbrev pub taken_bytes : Taken → List ℕ → List ℕ
 taken_bytes (Some n) room = take n room
 taken_bytes End room = []

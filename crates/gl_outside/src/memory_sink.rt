@@ -1,7 +1,7 @@
 ghost use Rattle.std.specs.Prelude.{◌≡◌, ◌≢◌, ◌+◌, ◌-◌, ◌<◌, ◌≤◌, ◌↔◌, ℕ, [], Some, length, IfOk};
 ghost use Rattle.std.specs.Io.KnownBytes.{Appends};
 ghost use Rattle.gl_outside.specs.Faults.{Rose, GoesOn};
-ghost use Rattle.gl_outside.specs.Sink.{AppendsFront};
+ghost use Rattle.gl_outside.specs.Sink.{AppendsPrefix};
 ghost use Rattle.gl_outside.specs.MemorySink.{after_give};
 
 use crate::sink::{Given, Sink};
@@ -61,7 +61,7 @@ impl Sink for MemorySink {
         // What every sink promises.
         ensures all { result ≡ Given.All
             → Appends (Some self.old.bytes) (Some self.new.bytes) piece.now }
-        ensures part { AppendsFront (Some self.old.bytes) (Some self.new.bytes) piece.now }
+        ensures part { AppendsPrefix (Some self.old.bytes) (Some self.new.bytes) piece.now }
         ensures cause { result ≡ Given.Failed → Rose self.old.faults self.new.faults }
         ensures nothing { self.new.bytes ≡ self.old.bytes → piece.now ≢ []
             → Rose self.old.faults self.new.faults }

@@ -79,8 +79,8 @@ mod tests {
                 return Err(io::Error::from(io::ErrorKind::Interrupted));
             }
             match (self.text.get(self.at), buf.first_mut()) {
-                (Some(byte), Some(place)) => {
-                    *place = *byte;
+                (Some(byte), Some(position)) => {
+                    *position = *byte;
                     self.at = self.at.saturating_add(1);
                     Ok(1)
                 }

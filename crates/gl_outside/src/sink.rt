@@ -1,14 +1,14 @@
 ghost use Rattle.std.specs.Prelude.{◌≡◌, ◌≢◌, ◌≤◌, ◌-◌, [], length, ℕ, List, Option, IfSome, Some};
 ghost use Rattle.std.specs.Io.KnownBytes.{Appends};
 ghost use Rattle.gl_outside.specs.Faults.{Rose, GoesOn};
-ghost use Rattle.gl_outside.specs.Sink.{AppendsFront};
+ghost use Rattle.gl_outside.specs.Sink.{AppendsPrefix};
 
 /// What a call of [`Sink::give`] answers.
 #[derive(Clone, Copy, Debug, PartialEq, Eq)]
 pub enum Given {
     /// The whole piece was taken.
     All,
-    /// The sink failed. It took a front of the piece, which may be nothing or all of it.
+    /// The sink failed. It took a prefix of the piece, which may be nothing or all of it.
     Failed,
 }
 
@@ -31,7 +31,7 @@ pub trait Sink {
         // The bytes, in order.
         ensures all { result ≡ Given.All
             → Appends (contents self.old) (contents self.new) piece.now }
-        ensures part { AppendsFront (contents self.old) (contents self.new) piece.now }
+        ensures part { AppendsPrefix (contents self.old) (contents self.new) piece.now }
 
         // The faults.
         ensures cause { result ≡ Given.Failed → Rose (faults self.old) (faults self.new) }

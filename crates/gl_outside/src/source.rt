@@ -6,7 +6,7 @@ ghost use Rattle.gl_outside.specs.Source.{taken_bytes, FitsRoom, EndsExactly};
 /// What a call of [`Source::take`] answers.
 #[derive(Clone, Copy, Debug, PartialEq, Eq)]
 pub enum Taken {
-    /// So many bytes stand at the front of the room. None says that the source is at its end.
+    /// So many bytes stand at the beginning of the room. None says that the source is at its end.
     Some(usize),
     /// No byte is left.
     End,
@@ -27,7 +27,7 @@ pub trait Source {
     /// The source fails at no call from here on. One that can't know says so of no state.
     ghost never_fails: { Self → Type 0 } = { λ _. ⊥ };
 
-    /// Takes the next bytes into the front of `room`. What stands behind them is left open, and
+    /// Takes the next bytes into the beginning of `room`. What stands after them is left open, and
     /// so is all of `room` where no byte was taken.
     fn take(&mut self, room: &mut [u8]) -> Taken
         requires { 0 < length room.old }

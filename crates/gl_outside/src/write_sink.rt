@@ -1,7 +1,7 @@
 ghost use Rattle.std.specs.Prelude.{◌≡◌, ◌≢◌, [], Some, IfSome, IsTrue};
 ghost use Rattle.std.specs.Io.KnownBytes.{Appends};
 ghost use Rattle.gl_outside.specs.Faults.{Rose, GoesOn};
-ghost use Rattle.gl_outside.specs.Sink.{AppendsFront, faults_after_give};
+ghost use Rattle.gl_outside.specs.Sink.{AppendsPrefix, faults_after_give};
 ghost use Rattle.gl_outside.specs.WriteSink.{sink_writer, writer_faults};
 
 use crate::sink::{Given, Sink};
@@ -38,7 +38,7 @@ impl<W: Write> Sink for WriteSink<W> {
         // What every sink promises.
         ensures all { result ≡ Given.All → Appends (W.contents (sink_writer self.old))
             (W.contents (sink_writer self.new)) piece.now }
-        ensures part { AppendsFront (W.contents (sink_writer self.old))
+        ensures part { AppendsPrefix (W.contents (sink_writer self.old))
             (W.contents (sink_writer self.new)) piece.now }
         ensures cause { result ≡ Given.Failed
             → Rose (writer_faults self.old) (writer_faults self.new) }
@@ -63,7 +63,7 @@ impl<W: Write> Sink for WriteSink<W> {
 fn write_whole<W: Write>(writer: &mut W, piece: &[u8]) -> bool
     ensures all { IsTrue result
         → Appends (W.contents writer.old) (W.contents writer.new) piece.now }
-    ensures part { AppendsFront (W.contents writer.old) (W.contents writer.new) piece.now }
+    ensures part { AppendsPrefix (W.contents writer.old) (W.contents writer.new) piece.now }
 {
     let mut rest = piece;
     while !rest.is_empty() {

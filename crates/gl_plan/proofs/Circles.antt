@@ -2,8 +2,8 @@
 use Rattle.std.proofs.Common.{◌≡◌, ℕ, ◌<◌, List, [], ◌∷◌, subst, sym}
 use Rattle.std.specs.Prelude.{All}
 use Rattle.std.proofs.lemmas.List.Elements.{All-nil, All-cons, All-contains}
-use Rattle.spec_order.specs.Edges.{AreWithin}
-use Rattle.spec_order.specs.Cycle.{IsWalk, IsCycle, IsFirstCycle}
+use Rattle.spec_plans.specs.Edges.{AreWithin}
+use Rattle.spec_plans.specs.Cycle.{IsWalk, IsCycle, IsFirstCycle}
 
 walk_within : (n : ℕ) (edges : List (ℕ × ℕ)) (a : ℕ) (xs : List ℕ) (b : ℕ) → AreWithin n edges → IsWalk edges a xs b → All (λ k. k < n) (a ∷ xs)
 walk_within n edges a [] b within walk =

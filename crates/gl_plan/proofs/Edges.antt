@@ -14,7 +14,7 @@ first_edges f xs i x within is =
     ∙ ap (λ y. map (λ b. (i, b)) (f y) ++ edges_from (suc i) (map f (drop (suc i) xs))) (sym is)
     ∙ ap (λ k. map (λ b. (i, b)) (f x) ++ edges_from k (map f (drop k xs))) (sym n)
 
--- what is left, behind what there is, stays the whole
+-- what is left, after what there is, stays the whole
 edges_more : {X : Type 0} (f : X → List ℕ) (xs : List X) (i : ℕ) (x : X) (edges more whole : List (ℕ × ℕ)) → i < length xs → x ≡ get_or xs i x
     → more ≡ edges ++ map (λ b. (i, b)) (f x)
     → edges ++ edges_from i (map f (drop i xs)) ≡ whole → more ++ edges_from (i + 1) (map f (drop (i + 1) xs)) ≡ whole

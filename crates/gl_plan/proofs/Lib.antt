@@ -1,4 +1,3 @@
-pub mod Lasts
 pub mod Rows
 pub mod Circles
 pub mod Edges

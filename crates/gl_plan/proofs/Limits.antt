@@ -3,7 +3,7 @@ use Rattle.std.proofs.Common.{◌≡◌, ℕ, List, [], ◌∷◌, map, arith}
 use Rattle.std.specs.Prelude.{fold, All, ⊤}
 use Rattle.std.specs.List.{AllByRecursion}
 use Rattle.std.proofs.lemmas.List.Elements.{recursion_from_All}
-use Rattle.spec_value.specs.Tree.{Tree}
+use Rattle.spec_plans.specs.Tree.{Tree}
 use Rattle.gl_lines.specs.declared.line.Line.{Line}
 use Rattle.gl_lines.specs.declared.line.Line.TheVariants as line
 use Rattle.gl_lines.specs.declared.line.NumberedLine.{NumberedLine}

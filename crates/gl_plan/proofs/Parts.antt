@@ -2,7 +2,7 @@
 use Rattle.std.proofs.Common.{◌≡◌, ℕ, List, map, ap, ◌∙◌}
 use mathlib.Core.Path.{fun_ext}
 use Rattle.std.specs.Prelude.{fold}
-use Rattle.spec_value.specs.Tree.{Tree}
+use Rattle.spec_plans.specs.Tree.{Tree}
 use Rattle.gl_lines.specs.declared.line.NumberedLine.{NumberedLine}
 use Rattle.spec_plans.specs.declared.part.Part.{Part}
 use Rattle.spec_plans.specs.Names.{list_names, listener_names}

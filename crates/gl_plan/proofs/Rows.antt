@@ -2,11 +2,12 @@
 use Rattle.std.proofs.Common.{◌≡◌, ℕ, zero, suc, ◌+◌, ◌<◌, ◌==◌, false, cond, List, [], ◌∷◌, ◌++◌, length, get_or, slice_set, take, refl, sym, ap, ◌∙◌, arith, append-nil}
 use Rattle.std.specs.Prelude.{option_to_list}
 use Rattle.std.proofs.lemmas.Bool.Decides.{nat_tests}
-use Rattle.spec_value.specs.Tree.{Tree}
+use Rattle.spec_plans.specs.Tree.{Tree}
 use Rattle.gl_lines.specs.declared.line.NumberedLine.{NumberedLine}
 use Rattle.spec_plans.specs.Making.{row_for, rows_for}
-use Rattle.gl_plan_faults.proofs.Building.{given_more}
+use Rattle.gl_plan_faults.proofs.Built.{given_more}
 use Rattle.gl_plan.specs.Tables.{rows_at}
+use Rattle.spec_plans.proofs.BasicsNumbers.{zero_suc, suc_zero, suc_suc}
 
 -- one empty list more
 pub one_empty : (rows : List (List Tree)) → ((source : ℕ) → rows_at rows source ≡ []) → (source : ℕ) → rows_at (rows ++ [] ∷ []) source ≡ []
@@ -14,15 +15,6 @@ one_empty [] none zero = refl
 one_empty [] none (suc source) = refl
 one_empty (r ∷ rows) none zero = none 0
 one_empty (r ∷ rows) none (suc source) = one_empty rows (λ s. none (suc s)) source
-
-zero_suc : (k : ℕ) → (0 == suc k) ≡ false
-zero_suc k = grind (arith, nat_tests)
-
-suc_zero : (k : ℕ) → (suc k == 0) ≡ false
-suc_zero k = grind (arith, nat_tests)
-
-suc_suc : (k n : ℕ) → (suc k == suc n) ≡ (k == n)
-suc_suc k n = grind (arith, nat_tests)
 
 -- a value more under a number
 pub put_at : (rows : List (List Tree)) (k source : ℕ) (old new : List Tree) (v : Tree) → k < length rows → old ≡ get_or rows k old → new ≡ old ++ v ∷ []

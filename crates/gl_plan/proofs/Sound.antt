@@ -2,8 +2,8 @@
 use Rattle.std.proofs.Common.{◌≡◌, ℕ, ◌≤◌, List, length, sym, ap, subst, ◌∙◌, inl, inr}
 use Rattle.std.specs.Prelude.{None, All}
 use Rattle.std.proofs.lemmas.List.{length-map}
-use Rattle.spec_order.specs.Edges.{AreWithin}
-use Rattle.spec_order.specs.Cycle.{HasCycle}
+use Rattle.spec_plans.specs.Edges.{AreWithin}
+use Rattle.spec_plans.specs.Cycle.{HasCycle}
 use Rattle.gl_lines.specs.declared.line.NumberedLine.{NumberedLine}
 use Rattle.gl_lines.specs.declared.plan.ListDecl.{ListDecl}
 use Rattle.gl_lines.specs.declared.plan.ListenerDecl.{ListenerDecl}
@@ -13,9 +13,9 @@ use Rattle.spec_plans.specs.NameFaults.{first_fault_at}
 use Rattle.spec_plans.specs.Plan.{Plan, list_edges, listener_edges}
 use Rattle.spec_plans.specs.Making.{plan_of}
 use Rattle.spec_plans.specs.Cycles.{NamesCycle}
-use Rattle.spec_canonical.proofs.Made.{names_are, hearers_are, as_many_lists, as_many_listeners}
-use Rattle.spec_canonical.proofs.Sound.{sound_lines_well_formed}
-use Rattle.spec_canonical.proofs.Within.{lists_within, listeners_within}
+use Rattle.spec_plans.proofs.Made.{names_are, hearers_are, as_many_lists, as_many_listeners}
+use Rattle.spec_plans.proofs.Sound.{sound_lines_well_formed}
+use Rattle.spec_plans.proofs.Within.{lists_within, listeners_within}
 use Rattle.gl_plan.specs.declared.tables.Tables.{Tables}
 use Rattle.gl_plan.specs.declared.fault.PlanFault.{PlanFault}
 use Rattle.gl_plan.specs.declared.fault.PlanFault.TheVariants.{At, Cycle, Memory}

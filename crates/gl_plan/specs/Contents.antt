@@ -1,6 +1,6 @@
 -- What a plan keeps.
 use Rattle.std.specs.Prelude.{◌≡◌, length}
-use Rattle.spec_order.specs.Turns.{turns}
+use Rattle.spec_plans.specs.DependencyOrder.{dependency_order}
 use Rattle.spec_plans.specs.Plan.{list_edges, listener_edges, proxies_of}
 use Rattle.gl_plan.specs.declared.plan.Contents.{Contents}
 use Rattle.gl_plan.specs.Whole.{IsWhole}
@@ -9,5 +9,6 @@ use Rattle.gl_plan.specs.Whole.{IsWhole}
 pub record AreContents (c : Contents) : Type 0 where
   pub whole : IsWhole c.draft
   pub proxies : c.proxies ≡ proxies_of c.draft
-  pub lists : c.list_order ≡ turns (length c.draft.lists) (list_edges c.draft)
-  pub listeners : c.listener_order ≡ turns (length c.draft.listeners) (listener_edges c.draft)
+  pub lists : c.list_order ≡ dependency_order (length c.draft.lists) (list_edges c.draft)
+  pub listeners : c.listener_order
+      ≡ dependency_order (length c.draft.listeners) (listener_edges c.draft)

@@ -10,7 +10,8 @@ use Rattle.gl_plan.specs.declared.fault.PlanFault.TheVariants.{At, Cycle, Memory
 
 -- it is the first fault of the lines; or they have none, and these are the names of the first cycle of their plan
 abbrev pub IsFaultOf : List NumberedLine → PlanFault → Type 0
-IsFaultOf lines (At line column what) = first_fault_at lines ≡ Some (record { line = line; column = column; kind = what })
+IsFaultOf lines (At line column what) =
+    first_fault_at lines ≡ Some (record { line = line; column = column; kind = what })
 IsFaultOf lines (Cycle names) = (first_fault_at lines ≡ None) × IsCycleOf (plan_of lines) names
 IsFaultOf lines Memory = ⊤
 

@@ -1,10 +1,10 @@
 -- What every plan has.
 use Rattle.std.specs.Prelude.{◌≡◌, ◌<◌, ◌≤◌, ℕ, List, length}
-use Rattle.spec_order.specs.Edges.{AreWithin}
+use Rattle.spec_plans.specs.Edges.{AreWithin}
 use Rattle.spec_plans.specs.Plan.{Plan, list_edges, listener_edges}
 use Rattle.spec_plans.specs.Cycles.{IsAcyclic}
-use Rattle.spec_canonical.specs.Canonical.{names_of_lists, names_of_listeners}
-use Rattle.spec_canonical.specs.WellFormed.{IsWellFormed}
+use Rattle.spec_plans.specs.PlanNames.{names_of_lists, names_of_listeners}
+use Rattle.spec_plans.specs.WellFormed.{IsWellFormed}
 
 -- A list of a plan may have 1 to 16,777,216 elements.
 pub record IsLimit (limit : ℕ) : Type 0 where

@@ -3,9 +3,8 @@
 ghost use Rattle.std.specs.Prelude.{◌≡◌, ◌↔◌, IsTrue};
 
 use gl_lines::{ListDecl, ListenerDecl};
-use gl_names::Name;
 use gl_publisher::Numbers;
-use gl_value::{Items, Value, Values};
+use gl_value::{Items, Name, Value, Values};
 
 /// Data of which two can be compared.
 pub(crate) trait Alike: Drop {

@@ -1,7 +1,7 @@
 //! The commands that lines give.
 
 ghost use Rattle.std.specs.Prelude.{◌≡◌, ◌||◌, ℕ, List, IsTrue};
-ghost use Rattle.spec_value.specs.Tree.{Tree};
+ghost use Rattle.spec_plans.specs.Tree.{Tree};
 ghost use Rattle.spec_plans.specs.declared.part.Part.TheVariants as parts;
 ghost use Rattle.spec_plans.specs.Lines.{is_command};
 ghost use Rattle.spec_plans.specs.Making.{part_of};
@@ -13,7 +13,8 @@ use gl_plan_faults::NameTable;
 /// The command that a line gives. What the line holds is moved.
 pub(crate) fn command(names: &NameTable, line: Line) -> Command
     requires { IsTrue (is_command line) }
-    ensures { (listeners : List (List ℕ)) (rows : ℕ → List Tree) → parts.Command result ≡ part_of names.now listeners rows line }
+    ensures { (listeners : List (List ℕ)) (rows : ℕ → List Tree)
+        → parts.Command result ≡ part_of names.now listeners rows line }
 {
     match line {
         Line::Match { list, matcher } => Command::Match {
@@ -47,7 +48,8 @@ pub(crate) fn command(names: &NameTable, line: Line) -> Command
 // A command about an element or about several, or else what `bare` makes of the line.
 fn edit(names: &NameTable, line: Line) -> Command
     requires { IsTrue (is_edit line || is_bare line) }
-    ensures { (listeners : List (List ℕ)) (rows : ℕ → List Tree) → parts.Command result ≡ part_of names.now listeners rows line }
+    ensures { (listeners : List (List ℕ)) (rows : ℕ → List Tree)
+        → parts.Command result ≡ part_of names.now listeners rows line }
 {
     match line {
         Line::Add { list, value } => Command::Add {
@@ -79,7 +81,8 @@ fn edit(names: &NameTable, line: Line) -> Command
 // A command that names no more than its list.
 fn bare(names: &NameTable, line: Line) -> Command
     requires { IsTrue (is_bare line) }
-    ensures { (listeners : List (List ℕ)) (rows : ℕ → List Tree) → parts.Command result ≡ part_of names.now listeners rows line }
+    ensures { (listeners : List (List ℕ)) (rows : ℕ → List Tree)
+        → parts.Command result ≡ part_of names.now listeners rows line }
 {
     match line {
         Line::Clear { list } => Command::Clear {

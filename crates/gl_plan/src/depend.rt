@@ -1,18 +1,17 @@
 //! On what lists and listeners depend.
 
 ghost use Rattle.std.specs.Prelude.{◌≡◌, ◌≤◌, ◌<◌, ◌++◌, [], length, map, slice_get, unwrap_or, All, IfOk, IfErr, OnOk};
-ghost use Rattle.spec_order.specs.Edges.{AreWithin};
-ghost use Rattle.spec_order.specs.Cycle.{HasCycle};
-ghost use Rattle.spec_order.specs.Turns.{turns};
+ghost use Rattle.spec_plans.specs.Edges.{AreWithin};
+ghost use Rattle.spec_plans.specs.Cycle.{HasCycle};
+ghost use Rattle.spec_plans.specs.DependencyOrder.{dependency_order};
 ghost use Rattle.spec_plans.specs.Plan.{inputs_of, edges_from};
 ghost use Rattle.spec_plans.specs.Cycles.{names_of};
 ghost use Rattle.gl_plan.specs.Fault.{IsRound};
 
 use crate::fault::{Names, PlanFault};
 use gl_lines::{ListDecl, ListKind, ListenerDecl};
-use gl_names::{Duplicate, Name};
 use gl_publisher::{Numbers, OrderFault, order};
-use gl_value::Items;
+use gl_value::{Items, Name};
 use std::alloc::{AllocError, Global};
 use std::slice;
 
@@ -23,7 +22,8 @@ pub(crate) fn edges_of_lists(
     lists: &[ListDecl],
 ) -> Result<Vec<(u32, u32)>, AllocError>
     requires { length lists.now ≤ 256 }
-    ensures { IfOk result (λ edges. edges.items ≡ edges_from 0 (map (λ d. inputs_of d.kind) lists.now)) }
+    ensures { IfOk result
+        (λ edges. edges.items ≡ edges_from 0 (map (λ d. inputs_of d.kind) lists.now)) }
 {
     let mut edges = Vec::new(alloc);
     for i in 0..lists.len() {
@@ -38,7 +38,8 @@ fn with_inputs(
     list: u32,
     kind: &ListKind,
 ) -> Result<Vec<(u32, u32)>, AllocError>
-    ensures { IfOk result (λ more. more.items ≡ edges.items ++ map (λ input. (list, input)) (inputs_of kind.now)) }
+    ensures { IfOk result
+        (λ more. more.items ≡ edges.items ++ map (λ input. (list, input)) (inputs_of kind.now)) }
 {
     match kind {
         ListKind::Source { .. } => Ok(edges),
@@ -65,7 +66,8 @@ fn with_edges(
     item: u32,
     needed: &[u32],
 ) -> Result<Vec<(u32, u32)>, AllocError>
-    ensures { IfOk result (λ more. more.items ≡ edges.items ++ map (λ other. (item, other)) needed.now) }
+    ensures { IfOk result
+        (λ more. more.items ≡ edges.items ++ map (λ other. (item, other)) needed.now) }
 {
     for other in needed {
         edges.push((item, *other))?;
@@ -95,7 +97,8 @@ fn with_after(
     number: u32,
     listener: &ListenerDecl,
 ) -> Result<Vec<(u32, u32)>, AllocError>
-    ensures { IfOk result (λ more. more.items ≡ edges.items ++ map (λ other. (number, other)) listener.now.after) }
+    ensures { IfOk result
+        (λ more. more.items ≡ edges.items ++ map (λ other. (number, other)) listener.now.after) }
 {
     with_edges(edges, number, listener.after.as_slice())
 }
@@ -108,7 +111,7 @@ pub(crate) fn in_order(
 ) -> Result<Numbers, PlanFault>
     requires few { length names.now ≤ 256 }
     requires within { AreWithin (length names.now) edges.now }
-    ensures order { IfOk result (λ placed. placed ≡ turns (length names.now) edges.now) }
+    ensures order { IfOk result (λ placed. placed ≡ dependency_order (length names.now) edges.now) }
     ensures acyclic { OnOk result (¬ HasCycle edges.now) }
     ensures cycle { IfErr result (λ fault. IsRound edges.now names.now fault) }
 {
@@ -129,17 +132,17 @@ fn named(alloc: Global, names: &[Name], numbers: &[u32]) -> Result<Names, AllocE
 {
     let mut found = Vec::with_capacity(alloc, numbers.len())?;
     for number in numbers {
-        found.push(name_of(alloc, names, *number)?)?;
+        found.push(name_of(names, *number)?)?;
     }
     Ok(Items::from_vec(found))
 }
 
-fn name_of(alloc: Global, names: &[Name], number: u32) -> Result<Name, AllocError>
+fn name_of(names: &[Name], number: u32) -> Result<Name, AllocError>
     requires { number < length names.now }
     ensures { IfOk result (λ name. name ≡ unwrap_or (slice_get names.now number) []) }
 {
     match names.get(number as usize) {
-        Some(name) => name.duplicate(alloc),
+        Some(name) => name.copy(),
         None => unreachable!(),
     }
 }

@@ -27,7 +27,7 @@ pub(crate) struct Draft {
 impl Model for Draft {
     ghost use Rattle.spec_plans.specs.Plan.{Plan as PlanData};
     ghost use Rattle.std.specs.Coded.{codes};
-    ghost use Rattle.spec_value.specs.Code.{tree_code};
+    ghost use Rattle.spec_lang.specs.Code.{tree_code};
     ghost use Rattle.spec_lang.specs.MatcherCode.{matcher_code};
     ghost use Rattle.spec_lang.specs.FuncCode.{func_code};
 
@@ -104,7 +104,7 @@ fn with_item<T: Drop>(items: Items<T>, item: T) -> Result<Items<T>, AllocError>
 }
 
 // The writers with a section more of the last of them; no writers have none to change.
-#[tactic(auto, using(crate::proofs::Lasts::with_last_end))]
+#[tactic(auto, using(spec_plans::proofs::Lasts::with_last_end))]
 fn with_section(alloc: Global, writers: Items<Sections>) -> Result<Items<Sections>, AllocError>
     ensures { IfOk result (λ all. all ≡ with_last (λ sections. sections ++ [] ∷ []) writers) }
 {
@@ -116,9 +116,10 @@ fn with_section(alloc: Global, writers: Items<Sections>) -> Result<Items<Section
 }
 
 // The writers with a command more in the last section of the last of them.
-#[tactic(auto, using(crate::proofs::Lasts::with_last_end))]
+#[tactic(auto, using(spec_plans::proofs::Lasts::with_last_end))]
 fn with_command(writers: Items<Sections>, command: Command) -> Result<Items<Sections>, AllocError>
-    ensures { IfOk result (λ all. all ≡ with_last (with_last (λ commands. commands ++ command ∷ [])) writers) }
+    ensures { IfOk result
+        (λ all. all ≡ with_last (with_last (λ commands. commands ++ command ∷ [])) writers) }
 {
     let mut others = writers.into_vec();
     match others.pop() {
@@ -128,7 +129,7 @@ fn with_command(writers: Items<Sections>, command: Command) -> Result<Items<Sect
 }
 
 // The sections with a command more in the last of them.
-#[tactic(auto, using(crate::proofs::Lasts::with_last_end))]
+#[tactic(auto, using(spec_plans::proofs::Lasts::with_last_end))]
 fn with_last_command(sections: Sections, command: Command) -> Result<Sections, AllocError>
     ensures { IfOk result (λ all. all ≡ with_last (λ commands. commands ++ command ∷ []) sections) }
 {

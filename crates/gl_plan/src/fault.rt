@@ -1,8 +1,7 @@
 //! Why lines make no plan.
 
 use gl_lines::PlanKind;
-use gl_names::Name;
-use gl_value::Items;
+use gl_value::{Items, Name};
 use std::alloc::AllocError;
 
 /// Names of lists or of listeners.

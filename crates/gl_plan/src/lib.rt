@@ -17,11 +17,11 @@ mod tables;
 mod tests;
 
 pub use fault::{Names, PlanFault};
+pub use gl_lang::{Bounds, Func, Matcher, Path, Test};
 pub use gl_lines::{
     Command, Line, Lines, ListDecl, ListKind, ListenerDecl, Misplaced, Named, NamedList,
-    NumberedLine, PlanKind,
+    NumberedLine, PlanKind, Reply,
 };
-pub use gl_names::Name;
-pub use gl_plan_faults::misplaced;
-pub use gl_value::Memory;
+pub use gl_plan_faults::{Before, misplaced};
+pub use gl_value::{Items, Memory, Name, Shelf, Steps, Text, Value, Values};
 pub use plan::Plan;

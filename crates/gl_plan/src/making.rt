@@ -1,9 +1,9 @@
 //! Plans from lines.
 
 ghost use Rattle.std.specs.Prelude.{◌≡◌, ◌≤◌, ◌++◌, None, length, All, IfOk, IfErr, OnOk};
-ghost use Rattle.spec_order.specs.Edges.{AreWithin};
-ghost use Rattle.spec_order.specs.Cycle.{HasCycle};
-ghost use Rattle.spec_order.specs.Turns.{turns};
+ghost use Rattle.spec_plans.specs.Edges.{AreWithin};
+ghost use Rattle.spec_plans.specs.Cycle.{HasCycle};
+ghost use Rattle.spec_plans.specs.DependencyOrder.{dependency_order};
 ghost use Rattle.spec_lines.specs.Within.{IsWithin};
 ghost use Rattle.spec_plans.specs.Plan.{list_edges, listener_edges, proxies_from};
 ghost use Rattle.spec_plans.specs.NameFaults.{first_fault_at};
@@ -21,10 +21,9 @@ use crate::part::part;
 use crate::plan::{Contents, Plan};
 use crate::tables::Tables;
 use gl_lines::{Lines, ListDecl, ListKind};
-use gl_names::Name;
 use gl_plan_faults::first_fault;
 use gl_publisher::Numbers;
-use gl_value::Items;
+use gl_value::{Items, Name};
 use std::alloc::{AllocError, Global};
 
 impl Plan {
@@ -100,8 +99,9 @@ fn ordered_plan(
     listener_order: Numbers,
 ) -> Result<Plan, AllocError>
     requires whole { IsWhole draft }
-    requires lists { list_order ≡ turns (length draft.lists) (list_edges draft) }
-    requires listeners { listener_order ≡ turns (length draft.listeners) (listener_edges draft) }
+    requires lists { list_order ≡ dependency_order (length draft.lists) (list_edges draft) }
+    requires listeners { listener_order
+        ≡ dependency_order (length draft.listeners) (listener_edges draft) }
     ensures { IfOk result (λ p. p ≡ draft) }
 {
     let proxies = proxies(alloc, draft.lists.as_slice())?;
@@ -122,7 +122,7 @@ fn ordered_lists(alloc: Global, draft: &Draft, names: &[Name]) -> Result<Numbers
     requires names { length names.now ≡ length draft.now.lists }
     requires within { AreWithin (length draft.now.lists) (list_edges draft.now) }
     ensures order { IfOk result (λ order.
-        order ≡ turns (length draft.now.lists) (list_edges draft.now)) }
+        order ≡ dependency_order (length draft.now.lists) (list_edges draft.now)) }
     ensures acyclic { OnOk result (¬ HasCycle (list_edges draft.now)) }
     ensures cycle { IfErr result (λ fault. IsRound (list_edges draft.now) names.now fault) }
 {
@@ -136,7 +136,7 @@ fn ordered_listeners(alloc: Global, draft: &Draft, names: &[Name]) -> Result<Num
     requires names { length names.now ≡ length draft.now.listeners }
     requires within { AreWithin (length draft.now.listeners) (listener_edges draft.now) }
     ensures order { IfOk result (λ order.
-        order ≡ turns (length draft.now.listeners) (listener_edges draft.now)) }
+        order ≡ dependency_order (length draft.now.listeners) (listener_edges draft.now)) }
     ensures acyclic { OnOk result (¬ HasCycle (listener_edges draft.now)) }
     ensures cycle { IfErr result (λ fault. IsRound (listener_edges draft.now) names.now fault) }
 {

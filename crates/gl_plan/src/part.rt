@@ -1,7 +1,7 @@
 //! What a line adds to a plan.
 
 ghost use Rattle.std.specs.Prelude.{◌≡◌, ◌||◌, ℕ, List, IsTrue, IfOk};
-ghost use Rattle.spec_value.specs.Tree.{Tree};
+ghost use Rattle.spec_plans.specs.Tree.{Tree};
 ghost use Rattle.gl_lines.specs.declared.line.Line.TheVariants as lines;
 ghost use Rattle.spec_plans.specs.Lines.{is_command};
 ghost use Rattle.spec_plans.specs.Making.{declared, numbers, part_of};
@@ -19,7 +19,9 @@ use std::alloc::{AllocError, Global};
 
 /// What a line adds. What the line holds is moved.
 pub(crate) fn part(alloc: Global, tables: &Tables, line: Line) -> Result<Part, AllocError>
-    ensures { IfOk result (λ part. part ≡ part_of tables.now.lists tables.now.listeners (rows_at tables.now.rows.items) line) }
+    ensures { IfOk result
+        (λ part. part
+        ≡ part_of tables.now.lists tables.now.listeners (rows_at tables.now.rows.items) line) }
 {
     match line {
         Line::Limit { limit } => Ok(Part::Limit(limit)),
@@ -40,7 +42,10 @@ pub(crate) fn part(alloc: Global, tables: &Tables, line: Line) -> Result<Part, A
 
 // A source with its rows, which are shared with the table.
 fn source(tables: &Tables, name: Named) -> Result<Part, AllocError>
-    ensures { IfOk result (λ part. part ≡ part_of tables.now.lists tables.now.listeners (rows_at tables.now.rows.items) (lines.Source name)) }
+    ensures { IfOk result
+        (λ part. part
+        ≡ part_of tables.now.lists tables.now.listeners (rows_at tables.now.rows.items)
+        (lines.Source name)) }
 {
     let rows = rows_of(tables, tables.lists.number_of(&name))?;
     Ok(declared(name, ListKind::Source { rows }))
@@ -62,7 +67,10 @@ fn composite(
     members: NamedList,
     may: NamedList,
 ) -> Result<Part, AllocError>
-    ensures { IfOk result (λ part. part ≡ part_of tables.now.lists tables.now.listeners (rows_at tables.now.rows.items) (lines.Composite name members may)) }
+    ensures { IfOk result
+        (λ part. part
+        ≡ part_of tables.now.lists tables.now.listeners (rows_at tables.now.rows.items)
+        (lines.Composite name members may)) }
 {
     let members = numbers(alloc, &tables.lists, members.as_slice())?;
     let may = numbers(alloc, &tables.lists, may.as_slice())?;
@@ -77,7 +85,10 @@ fn listener(
     after: NamedList,
     echo: bool,
 ) -> Result<Part, AllocError>
-    ensures { IfOk result (λ part. part ≡ part_of tables.now.lists tables.now.listeners (rows_at tables.now.rows.items) (lines.Listen name list after echo)) }
+    ensures { IfOk result
+        (λ part. part
+        ≡ part_of tables.now.lists tables.now.listeners (rows_at tables.now.rows.items)
+        (lines.Listen name list after echo)) }
 {
     let after = numbers(alloc, &tables.listeners, after.as_slice())?;
     Ok(Part::Listener(ListenerDecl {
@@ -112,7 +123,8 @@ fn declared(name: Named, kind: ListKind) -> Part
 // A list of one input and of what makes it another list, or else what `plain` makes of the line.
 fn view(names: &NameTable, line: Line) -> Part
     requires { IsTrue (is_view line || (is_plain line || is_command line)) }
-    ensures { (listeners : List (List ℕ)) (rows : ℕ → List Tree) → result ≡ part_of names.now listeners rows line }
+    ensures { (listeners : List (List ℕ)) (rows : ℕ → List Tree)
+        → result ≡ part_of names.now listeners rows line }
 {
     let (name, kind) = match line {
         Line::Filter {
@@ -151,7 +163,8 @@ fn view(names: &NameTable, line: Line) -> Part
 // A list whose declaration holds no more than its input and numbers, or else a command.
 fn plain(names: &NameTable, line: Line) -> Part
     requires { IsTrue (is_plain line || is_command line) }
-    ensures { (listeners : List (List ℕ)) (rows : ℕ → List Tree) → result ≡ part_of names.now listeners rows line }
+    ensures { (listeners : List (List ℕ)) (rows : ℕ → List Tree)
+        → result ≡ part_of names.now listeners rows line }
 {
     match line {
         Line::Range {

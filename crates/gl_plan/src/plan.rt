@@ -2,7 +2,7 @@
 
 ghost use Rattle.std.specs.Prelude.{◌≡◌, ◌↔◌, ◌<◌, ◌≤◌, length, IsTrue, IfOk};
 ghost use Rattle.std.specs.Arc.{arc_value};
-ghost use Rattle.spec_order.specs.Turns.{turns};
+ghost use Rattle.spec_plans.specs.DependencyOrder.{dependency_order};
 ghost use Rattle.spec_plans.specs.Plan.{sections_of, commands_of, proxies_of, list_edges, listener_edges};
 ghost use Rattle.gl_plan.specs.Whole.{IsWhole};
 ghost use Rattle.gl_plan.specs.Contents.{AreContents};
@@ -37,7 +37,7 @@ impl Model for Plan {
     ghost use Rattle.spec_plans.specs.Plan.{Plan as PlanData};
     ghost use Rattle.std.specs.Arc.{arc_value};
     ghost use Rattle.std.specs.Coded.{codes};
-    ghost use Rattle.spec_value.specs.Code.{tree_code};
+    ghost use Rattle.spec_lang.specs.Code.{tree_code};
     ghost use Rattle.spec_lang.specs.MatcherCode.{matcher_code};
     ghost use Rattle.spec_lang.specs.FuncCode.{func_code};
     ghost use Rattle.gl_plan.specs.Contents.{AreContents};
@@ -84,17 +84,18 @@ impl Plan {
         self.shared.draft.listeners.as_slice()
     }
 
-    /// The numbers of the lists in dependency order: each behind those that it depends on, and always the least that
+    /// The numbers of the lists in dependency order: each after those that it depends on, and always the least that
     /// may come next.
     pub fn list_order(&self) -> &[u32]
-        ensures { result.now ≡ turns (length self.now.lists) (list_edges self.now) }
+        ensures { result.now ≡ dependency_order (length self.now.lists) (list_edges self.now) }
     {
         self.shared.list_order.as_slice()
     }
 
-    /// The numbers of the listeners in dependency order: each behind those that it is told after.
+    /// The numbers of the listeners in dependency order: each after those that it is told after.
     pub fn listener_order(&self) -> &[u32]
-        ensures { result.now ≡ turns (length self.now.listeners) (listener_edges self.now) }
+        ensures { result.now
+            ≡ dependency_order (length self.now.listeners) (listener_edges self.now) }
     {
         self.shared.listener_order.as_slice()
     }

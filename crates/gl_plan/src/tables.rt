@@ -41,7 +41,8 @@ impl Tables {
 // The opening elements under each number of a name. Values are shared, so none is copied deeply.
 #[tactic(auto, using(crate::proofs::Rows::rows_more))]
 fn rows(alloc: Global, names: &NameTable, lines: &[NumberedLine]) -> Result<Vec<Values>, AllocError>
-    ensures { IfOk result (λ rows. (source : ℕ) → rows_at rows.items source ≡ rows_for names.now lines.now source) }
+    ensures { IfOk result
+        (λ rows. (source : ℕ) → rows_at rows.items source ≡ rows_for names.now lines.now source) }
 {
     let mut rows = no_rows(alloc, names.as_slice().len())?;
     for line in lines {
@@ -67,7 +68,10 @@ fn no_rows(alloc: Global, count: usize) -> Result<Vec<Values>, AllocError>
 fn with_row(rows: Vec<Values>, names: &NameTable, line: &Line) -> Result<Vec<Values>, AllocError>
     requires { length rows.items ≡ length names.now }
     ensures count { IfOk result (λ more. length more.items ≡ length rows.items) }
-    ensures rows { IfOk result (λ more. (source : ℕ) → rows_at more.items source ≡ rows_at rows.items source ++ option_to_list (row_for names.now source line.now)) }
+    ensures rows { IfOk result
+        (λ more. (source : ℕ)
+        → rows_at more.items source
+        ≡ rows_at rows.items source ++ option_to_list (row_for names.now source line.now)) }
 {
     match line {
         Line::Row { list, value } => match names.number(&list.name) {
@@ -83,7 +87,10 @@ fn with_row(rows: Vec<Values>, names: &NameTable, line: &Line) -> Result<Vec<Val
 fn with_value(mut rows: Vec<Values>, number: u32, value: Value) -> Result<Vec<Values>, AllocError>
     requires { number < length rows.items }
     ensures count { IfOk result (λ more. length more.items ≡ length rows.items) }
-    ensures rows { IfOk result (λ more. (source : ℕ) → rows_at more.items source ≡ rows_at rows.items source ++ (if number == source then value ∷ [] else [])) }
+    ensures rows { IfOk result
+        (λ more. (source : ℕ)
+        → rows_at more.items source
+        ≡ rows_at rows.items source ++ (if number == source then value ∷ [] else [])) }
 {
     match rows[number as usize].push(value) {
         Ok(()) => Ok(rows),

@@ -10,7 +10,7 @@ use Rattle.gl_lines.specs.declared.line.NumberedLine.{NumberedLine}
 use Rattle.spec_plans.specs.Lines.{Head, Hearer, head_of, hearer_of}
 use Rattle.spec_plans.specs.Names.{heads, hearers, list_names, listener_names, number_of}
 use Rattle.gl_plan_faults.specs.Passed.{is_early}
-use Rattle.gl_plan_faults.proofs.Numbering.{position_in_front}
+use Rattle.gl_plan_faults.proofs.Numbers.{position_in_prefix}
 
 module _ {X : Type 0} (p : X → Bool) where
   -- a first place among the first items
@@ -24,9 +24,9 @@ module _ {X : Type 0} (p : X → Bool) where
           never : (k : ℕ) → ltb k 0 ≡ false
           never k = grind (arith, nat_tests)
   early (x ∷ xs) ys =
-      ap is_some (position_in_front p x xs)
+      ap is_some (position_in_prefix p x xs)
       ∙ step (p x) (position p xs) (position p (xs ++ ys)) (early xs ys)
-      ∙ ap (λ o. is_early o (suc (length xs))) (sym (position_in_front p x (xs ++ ys)))
+      ∙ ap (λ o. is_early o (suc (length xs))) (sym (position_in_prefix p x (xs ++ ys)))
     where
       more : (o q : Option ℕ) → is_some o ≡ is_early q (length xs) → is_some (option_map suc o) ≡ is_early (option_map suc q) (suc (length xs))
       more None None e = refl

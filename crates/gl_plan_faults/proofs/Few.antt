@@ -11,55 +11,24 @@ use Rattle.gl_lines.specs.declared.line.Line.{Line}
 use Rattle.gl_lines.specs.declared.line.NumberedLine.{NumberedLine}
 use Rattle.gl_lines.specs.declared.fault.PlanKind.{PlanKind}
 use Rattle.gl_lines.specs.declared.fault.PlanKind.TheVariants.{Place, Many}
-use Rattle.spec_plans.specs.Along.{first_behind}
+use Rattle.spec_plans.specs.Along.{first_after}
 use Rattle.spec_plans.specs.Lines.{head_of, hearer_of, is_list, is_listener, is_writer}
 use Rattle.spec_plans.specs.Place.{count_lines, is_out_of_place, is_too_many, place_fault, misplacing, first_misplaced}
 use Rattle.spec_plans.specs.Names.{heads, hearers}
-
-first_none : {B : Type 0} (o p : Option B) → option_or o p ≡ None → o ≡ None
-first_none None p e = refl
-first_none (Some b) p e = e
-
-second_none : {B : Type 0} (o p : Option B) → option_or o p ≡ None → p ≡ None
-second_none None p e = e
-second_none (Some b) p e = absurd (none-some b (sym e))
-
-unmapped : {A B : Type 0} (f : A → B) (o : Option A) → option_map f o ≡ None → o ≡ None
-unmapped f None e = refl
-unmapped f (Some a) e = absurd (none-some (f a) (sym e))
-
-not_many : (out many : Bool) → cond out (Some Place) (cond many (Some Many) None) ≡ None → many ≡ false
-not_many true many e = absurd (none-some Place (sym e))
-not_many false true e = absurd (none-some Many (sym e))
-not_many false false e = refl
-
-left_false : (p q : Bool) → (p || q) ≡ false → p ≡ false
-left_false false q e = refl
-left_false true q e = absurd (true≢false e)
-
-right_false : (p q : Bool) → (p || q) ≡ false → q ≡ false
-right_false false q e = e
-right_false true q e = absurd (true≢false e)
-
--- a line behind at most so many of its sort, and not one too many
-one_more : (most n : ℕ) (t : Bool) → n ≤ most → (t && (n == most)) ≡ false → n + cond t 1 0 ≤ most
-one_more most n false few e = omega arith
-one_more most n true few e = by (n == most) refl
-  where
-    by : (s : Bool) → (n == most) ≡ s → n + 1 ≤ most
-    by true h = absurd (true≢false (sym h ∙ e))
-    by false h = grind (arith, nat_tests)
+use Rattle.spec_basics.proofs.Booleans.{left_false, right_false}
+use Rattle.spec_basics.proofs.Options.{first_none, second_none, unmapped}
+use Rattle.spec_plans.proofs.SoundFew.{not_many, one_more}
 
 module _ (p : Line → Bool) (most : ℕ) (told : (before : List NumberedLine) (line : Line) → is_too_many before line ≡ false → (p line && (count_lines p before == most)) ≡ false) where
-  few_behind : (before rest : List NumberedLine) → count_lines p before ≤ most → first_behind misplacing before rest ≡ None → count_lines p (before ++ rest) ≤ most
-  few_behind before [] few e = subst (λ ls. count_lines p ls ≤ most) (sym (append-nil before)) few
-  few_behind before (l ∷ ls) few e =
-      let here : place_fault before l.what ≡ None = unmapped (λ (k : PlanKind). record { line = l.line; kind = k }) (place_fault before l.what) (first_none (misplacing before l) (first_behind misplacing (before ++ l ∷ []) ls) e) in
+  few_after : (before rest : List NumberedLine) → count_lines p before ≤ most → first_after misplacing before rest ≡ None → count_lines p (before ++ rest) ≤ most
+  few_after before [] few e = subst (λ ls. count_lines p ls ≤ most) (sym (append-nil before)) few
+  few_after before (l ∷ ls) few e =
+      let here : place_fault before l.what ≡ None = unmapped (λ (k : PlanKind). record { line = l.line; kind = k }) (place_fault before l.what) (first_none (misplacing before l) (first_after misplacing (before ++ l ∷ []) ls) e) in
       let fits : (p l.what && (count_lines p before == most)) ≡ false = told before l.what (not_many (is_out_of_place before l.what) (is_too_many before l.what) here) in
       let more : count_lines p (before ++ l ∷ []) ≤ most =
-      omega (arith, sum_by-append (λ (k : NumberedLine). cond (p k.what) 1 0) before (l ∷ []), one_more most (count_lines p before) (p l.what) few fits) in
+      omega (arith, sum_by-append (λ (k : NumberedLine). cond (p k.what) 1 0) before (l ∷ []), one_more (count_lines p before) most (p l.what) few fits) in
       subst (λ ks. count_lines p ks ≤ most) (append_assoc before (l ∷ []) ls)
-      (few_behind (before ++ l ∷ []) ls more (second_none (misplacing before l) (first_behind misplacing (before ++ l ∷ []) ls) e))
+      (few_after (before ++ l ∷ []) ls more (second_none (misplacing before l) (first_after misplacing (before ++ l ∷ []) ls) e))
 
 one_given : {Y : Type 0} (o : Option Y) (ys : List Y) → length (cons_option o ys) ≡ cond (is_some o) (1 + length ys) (length ys)
 one_given None ys = refl
@@ -75,16 +44,16 @@ none_of p most before line = p line && (count_lines p before == most)
 pub few_lists_in : (lines : List NumberedLine) → first_misplaced lines ≡ None → length (heads lines) ≤ 256
 few_lists_in lines e =
     subst (λ n. n ≤ 256) (sym (counted (λ (l : NumberedLine). head_of l.what) lines))
-    (few_behind is_list 256 (λ before line h. left_false (none_of is_list 256 before line) (none_of is_listener 256 before line)
+    (few_after is_list 256 (λ before line h. left_false (none_of is_list 256 before line) (none_of is_listener 256 before line)
     (left_false (none_of is_list 256 before line || none_of is_listener 256 before line) (none_of is_writer 64 before line) h)) [] lines (omega arith) e)
 
 pub few_listeners_in : (lines : List NumberedLine) → first_misplaced lines ≡ None → length (hearers lines) ≤ 256
 few_listeners_in lines e =
     subst (λ n. n ≤ 256) (sym (counted (λ (l : NumberedLine). hearer_of l.what) lines))
-    (few_behind is_listener 256 (λ before line h. right_false (none_of is_list 256 before line) (none_of is_listener 256 before line)
+    (few_after is_listener 256 (λ before line h. right_false (none_of is_list 256 before line) (none_of is_listener 256 before line)
     (left_false (none_of is_list 256 before line || none_of is_listener 256 before line) (none_of is_writer 64 before line) h)) [] lines (omega arith) e)
 
 pub few_writers_in : (lines : List NumberedLine) → first_misplaced lines ≡ None → count_lines is_writer lines ≤ 64
 few_writers_in lines e =
-    few_behind is_writer 64 (λ before line h.
+    few_after is_writer 64 (λ before line h.
     right_false (none_of is_list 256 before line || none_of is_listener 256 before line) (none_of is_writer 64 before line) h) [] lines (omega arith) e

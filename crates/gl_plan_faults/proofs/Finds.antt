@@ -4,7 +4,7 @@ use Rattle.std.specs.Prelude.{option_map, option_and_then, unwrap_or, slice_get}
 use Rattle.std.specs.List.{AllZip}
 use Rattle.std.specs.Option.{option_or}
 use Rattle.spec_plans.specs.declared.fault.NameFault.{NameFault}
-use Rattle.spec_order.specs.Turns.{has}
+use Rattle.spec_order.specs.DependencyOrder.{has}
 use Rattle.gl_lines.specs.declared.line.NumberedLine.{NumberedLine}
 use Rattle.spec_plans.specs.Lines.{Head}
 use Rattle.spec_plans.specs.Names.{heads, list_names, number_of, class_of, needed_by, depends_on}
@@ -37,7 +37,7 @@ module _ (lines : List NumberedLine) where
   pub depends_at : (ls : List Listed) (a b : ℕ) → AreListed lines ls → unwrap_or (option_map (λ l. has l.needs b) (slice_get ls a)) false ≡ depends_on lines a b
   depends_at ls a b z = needs_at (heads lines) ls z a b
 
--- five faults, one behind the other
+-- five faults, one after the other
 pub five : (all a r b s c t d e a2 b2 c2 d2 e2 : Option NameFault) → all ≡ option_or a r → r ≡ option_or b s → s ≡ option_or c t → t ≡ option_or d e
     → a ≡ a2 → b ≡ b2 → c ≡ c2 → d ≡ d2 → e ≡ e2 → all ≡ option_or a2 (option_or b2 (option_or c2 (option_or d2 e2)))
 five all a r b s c t d e a2 b2 c2 d2 e2 f1 f2 f3 f4 g1 g2 g3 g4 g5 =

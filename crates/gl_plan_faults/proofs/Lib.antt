@@ -1,8 +1,8 @@
-pub mod Numbering
-pub mod Building
-pub mod Marking
-pub mod Reaching
+pub mod Numbers
+pub mod Built
+pub mod MarkedNumbers
+pub mod Reach
 pub mod Finds
 pub mod Early
 pub mod Few
-pub mod Passing
+pub mod PassedLines

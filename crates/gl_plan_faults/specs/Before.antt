@@ -6,7 +6,7 @@ use Rattle.spec_plans.specs.Place.{some_line, count_lines, has_section}
 use Rattle.gl_plan_faults.specs.declared.placing.Before.{Before}
 
 -- it is the count of these lines
-pub record StandsBehind (before : Before) (lines : List NumberedLine) : Type 0 where
+pub record StandsAfter (before : Before) (lines : List NumberedLine) : Type 0 where
   pub limited : before.limited ≡ some_line is_limit lines
   pub written : before.written ≡ some_line is_writer lines
   pub open_section : before.open_section ≡ has_section lines

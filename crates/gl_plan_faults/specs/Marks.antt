@@ -1,7 +1,7 @@
 -- What the tables of lists stand for.
 use Rattle.std.specs.Prelude.{◌≡◌, ◌||◌, ◌++◌, ℕ, Bool, List, [], ◌∷◌, Option, None, Some}
 use Rattle.std.specs.List.{list_any, AllZip}
-use Rattle.spec_order.specs.Turns.{has}
+use Rattle.spec_order.specs.DependencyOrder.{has}
 use Rattle.gl_lines.specs.declared.line.NumberedLine.{NumberedLine}
 use Rattle.spec_plans.specs.Lines.{Head}
 use Rattle.spec_plans.specs.Names.{heads, is_pumped, needed_by, numbers_in}
@@ -24,5 +24,6 @@ AreListed lines lists = AllZip (StandsFor lines) (heads lines) lists
 -- more is the lists with one that has this head, where there is one, by these names
 abbrev pub Lists : List (List ℕ) → List Listed → Option Head → List Listed → Type 0
 Lists names lists None more = more ≡ lists
-Lists names lists (Some h) more = (list : Listed) × (more ≡ lists ++ list ∷ []) × (list.class ≡ h.class)
+Lists names lists (Some h) more =
+    (list : Listed) × (more ≡ lists ++ list ∷ []) × (list.class ≡ h.class)
     × ((b : ℕ) → has list.needs b ≡ has (numbers_in names (h.inputs ++ h.may)) b)

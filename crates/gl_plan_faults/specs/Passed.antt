@@ -24,4 +24,5 @@ is_early (Some k) n = nat_lt k n
 
 -- the fault of a transaction's input that is among these
 abbrev pub again_fault : List (List ℕ) → Named → Option NameFault
-again_fault undone named = if is_some (number_of undone named.name) then wrong named Second else None
+again_fault undone named =
+    if is_some (number_of undone named.name) then wrong named Second else None

@@ -7,4 +7,5 @@ use Rattle.spec_plans.specs.Names.{number_of}
 
 -- for each name the number of its first place among these
 abbrev pub HasNumbers : BTreeMap (List ℕ) ℕ → List (List ℕ) → Type 0
-HasNumbers numbers names = (name : List ℕ) → get (slice_cmp nat_cmp) numbers name ≡ number_of names name
+HasNumbers numbers names =
+    (name : List ℕ) → get (slice_cmp nat_cmp) numbers name ≡ number_of names name

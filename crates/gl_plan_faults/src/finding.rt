@@ -1,7 +1,7 @@
 //! What the names of known lines stand for.
 
 ghost use Rattle.std.specs.Prelude.{◌≡◌, ◌≤◌, false, length, option_map, slice_get, unwrap_or, IfOk};
-ghost use Rattle.spec_order.specs.Turns.{has};
+ghost use Rattle.spec_order.specs.DependencyOrder.{has};
 ghost use Rattle.spec_plans.specs.Names.{heads, hearers, list_names, listener_names, number_of, class_of, depends_on, is_over_proxy};
 ghost use Rattle.gl_plan_faults.specs.Known.{IsKnown};
 
@@ -10,7 +10,7 @@ use crate::listed::Listed;
 use crate::marks::is_marked;
 use crate::tables::{listed, names_of_listeners, names_of_lists, over_proxies};
 use gl_lines::NumberedLine;
-use gl_names::Name;
+use gl_value::Name;
 use spec_plans::ListClass;
 use std::alloc::{AllocError, Global};
 
@@ -91,7 +91,8 @@ fn class_at(lists: &[Listed], number: u32) -> Option<ListClass>
 
 // Whether the list of a number depends on another.
 fn needs_at(lists: &[Listed], number: u32, other: u32) -> bool
-    ensures { result ≡ unwrap_or (option_map (λ list. has list.needs other) (slice_get lists.now number)) false }
+    ensures { result
+        ≡ unwrap_or (option_map (λ list. has list.needs other) (slice_get lists.now number)) false }
 {
     match lists.get(number as usize) {
         Some(list) => list.needs.has(other),

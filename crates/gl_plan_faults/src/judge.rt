@@ -108,7 +108,8 @@ fn first_after_fault(known: &Known<'_>, listed: &[Named]) -> Option<NameFault>
 fn list_taken_fault(known: &Known<'_>, passed: &Passed, named: &Named) -> Option<NameFault>
     requires known { IsKnown known.now }
     requires passed { HasPassed passed.now known.now.lines.now }
-    ensures { result ≡ taken_fault (list_names (take passed.now.place known.now.lines.now)) named.now }
+    ensures { result
+        ≡ taken_fault (list_names (take passed.now.place known.now.lines.now)) named.now }
 {
     if is_early(known.list_number(&named.name), passed.lists) {
         wrong(named, PlanKind::Taken)
@@ -122,7 +123,8 @@ fn list_taken_fault(known: &Known<'_>, passed: &Passed, named: &Named) -> Option
 fn listener_taken_fault(known: &Known<'_>, passed: &Passed, named: &Named) -> Option<NameFault>
     requires known { IsKnown known.now }
     requires passed { HasPassed passed.now known.now.lines.now }
-    ensures { result ≡ taken_fault (listener_names (take passed.now.place known.now.lines.now)) named.now }
+    ensures { result
+        ≡ taken_fault (listener_names (take passed.now.place known.now.lines.now)) named.now }
 {
     if is_early(known.listener_number(&named.name), passed.listeners) {
         wrong(named, PlanKind::Taken)
@@ -210,7 +212,9 @@ fn first(fault: Option<NameFault>, other: Option<NameFault>) -> Option<NameFault
 
 // The transactions' inputs that an earlier transaction has.
 fn second_fault(passed: &Passed, head: ListHead<'_>) -> Option<NameFault>
-    ensures { result ≡ (if is_undone head.entry.class then first_fault (again_fault passed.now.undone) head.entry.inputs.now else None) }
+    ensures { result
+        ≡ (if is_undone head.entry.class
+        then first_fault (again_fault passed.now.undone) head.entry.inputs.now else None) }
 {
     if is_undone(head.class) {
         first_again_fault(passed, head.inputs)
@@ -223,7 +227,9 @@ fn second_fault(passed: &Passed, head: ListHead<'_>) -> Option<NameFault>
 fn list_fault(known: &Known<'_>, passed: &Passed, head: ListHead<'_>) -> Option<NameFault>
     requires known { IsKnown known.now }
     requires passed { HasPassed passed.now known.now.lines.now }
-    ensures { result ≡ list_fault known.now.lines.now (take passed.now.place known.now.lines.now) (head_seen head.entry) }
+    ensures { result
+        ≡ list_fault known.now.lines.now (take passed.now.place known.now.lines.now)
+        (head_seen head.entry) }
 {
     let over = proxy_fault(known, passed.lists, head.class);
     let again = first(second_fault(passed, head), over);
@@ -237,7 +243,9 @@ fn list_fault(known: &Known<'_>, passed: &Passed, head: ListHead<'_>) -> Option<
 fn listener_fault(known: &Known<'_>, passed: &Passed, head: ListenerHead<'_>) -> Option<NameFault>
     requires known { IsKnown known.now }
     requires passed { HasPassed passed.now known.now.lines.now }
-    ensures { result ≡ listener_fault known.now.lines.now (take passed.now.place known.now.lines.now) (hearer_seen head.entry) }
+    ensures { result
+        ≡ listener_fault known.now.lines.now (take passed.now.place known.now.lines.now)
+        (hearer_seen head.entry) }
 {
     let after = first_after_fault(known, head.after);
     let list = first(use_fault(known, None, head.list), after);
@@ -281,7 +289,9 @@ fn command_fault(
     member: Option<&Named>,
 ) -> Option<NameFault>
     requires known { IsKnown known.now }
-    ensures { result ≡ option_or (use_fault known.now.lines.now need list.now) (option_and_then (attach_fault known.now.lines.now list.now) (option_copied member.entry)) }
+    ensures { result
+        ≡ option_or (use_fault known.now.lines.now need list.now)
+        (option_and_then (attach_fault known.now.lines.now list.now) (option_copied member.entry)) }
 {
     let attaching = match member {
         Some(member) => attach_fault(known, list, member),
@@ -294,7 +304,8 @@ fn command_fault(
 pub(crate) fn name_fault(known: &Known<'_>, passed: &Passed, line: &Line) -> Option<NameFault>
     requires known { IsKnown known.now }
     requires passed { HasPassed passed.now known.now.lines.now }
-    ensures { result ≡ name_fault known.now.lines.now (take passed.now.place known.now.lines.now) line.now }
+    ensures { result
+        ≡ name_fault known.now.lines.now (take passed.now.place known.now.lines.now) line.now }
 {
     let list = match list_head(line) {
         Some(head) => list_fault(known, passed, head),

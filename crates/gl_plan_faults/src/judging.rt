@@ -38,7 +38,7 @@ pub fn first_fault(alloc: Global, lines: &Lines) -> Result<Option<FaultAt>, Allo
 }
 
 // The first fault of names.
-#[tactic(auto, using(crate::proofs::Passing::few_passed, crate::proofs::Passing::few_heard))]
+#[tactic(auto, using(crate::proofs::PassedLines::few_passed, crate::proofs::PassedLines::few_heard))]
 fn first_misnamed(alloc: Global, known: &Known<'_>) -> Result<Option<FaultAt>, AllocError>
     requires known { IsKnown known.now }
     requires lists { length (heads known.now.lines.now) ≤ 256 }
@@ -73,9 +73,12 @@ fn with_line(passed: Passed, line: &Line) -> Result<Passed, AllocError>
     requires listeners { passed.listeners < 2 ^ 63 }
     requires undone { length passed.undone ≤ passed.lists }
     ensures place { IfOk result (λ more. more.place ≡ passed.place + 1) }
-    ensures lists { IfOk result (λ more. more.lists ≡ passed.lists + length (option_to_list (head_of line.now))) }
-    ensures listeners { IfOk result (λ more. more.listeners ≡ passed.listeners + length (option_to_list (hearer_of line.now))) }
-    ensures undone { IfOk result (λ more. more.undone ≡ passed.undone ++ undone_inputs (option_to_list (head_of line.now))) }
+    ensures lists { IfOk result
+        (λ more. more.lists ≡ passed.lists + length (option_to_list (head_of line.now))) }
+    ensures listeners { IfOk result
+        (λ more. more.listeners ≡ passed.listeners + length (option_to_list (hearer_of line.now))) }
+    ensures undone { IfOk result
+        (λ more. more.undone ≡ passed.undone ++ undone_inputs (option_to_list (head_of line.now))) }
 {
     Ok(Passed {
         place: passed.place + 1,
@@ -108,7 +111,8 @@ fn with_listener(listeners: usize, line: &Line) -> usize
 // The inputs of transactions with that of the line, where it declares one.
 fn with_undone(undone: NameTable, line: &Line) -> Result<NameTable, AllocError>
     requires { length undone < 2 ^ 32 }
-    ensures { IfOk result (λ more. more ≡ undone ++ undone_inputs (option_to_list (head_of line.now))) }
+    ensures { IfOk result
+        (λ more. more ≡ undone ++ undone_inputs (option_to_list (head_of line.now))) }
 {
     match line {
         Line::Transaction { input, .. } => undone.with(&input.name),

@@ -6,7 +6,7 @@ ghost use Rattle.spec_plans.specs.Names.{number_of};
 ghost use Rattle.gl_plan_faults.specs.Table.{HasNumbers};
 
 use gl_lines::Named;
-use gl_names::{Duplicate, Name};
+use gl_value::Name;
 use std::alloc::{AllocError, Global};
 use std::collections::BTreeMap;
 use std::marker::Model;
@@ -14,7 +14,6 @@ use std::marker::Model;
 /// Names by number, and the first number of each name. A name is found in logarithmic time.
 #[derive(Drop)]
 pub struct NameTable {
-    alloc: Global,
     names: Vec<Name>,
     numbers: BTreeMap<Name, u32>,
 }
@@ -36,7 +35,6 @@ impl NameTable {
         ensures { result ≡ [] }
     {
         NameTable {
-            alloc,
             names: Vec::new(alloc),
             numbers: BTreeMap::new(alloc),
         }
@@ -62,18 +60,10 @@ impl NameTable {
         requires { length self < 2 ^ 32 }
         ensures { IfOk result (λ table. table ≡ self ++ name.now ∷ []) }
     {
-        let NameTable {
-            alloc,
-            mut names,
-            numbers,
-        } = self;
-        let numbers = with_number(alloc, numbers, name, names.len() as u32)?;
-        names.push(name.duplicate(alloc)?)?;
-        Ok(NameTable {
-            alloc,
-            names,
-            numbers,
-        })
+        let NameTable { mut names, numbers } = self;
+        let numbers = with_number(numbers, name, names.len() as u32)?;
+        names.push(name.copy()?)?;
+        Ok(NameTable { names, numbers })
     }
 
     /// The names, by number.
@@ -85,18 +75,19 @@ impl NameTable {
 }
 
 // The first numbers of names with a name more.
-#[tactic(auto, using(crate::proofs::Numbering::still_there, crate::proofs::Numbering::put_there))]
+#[tactic(auto, using(crate::proofs::Numbers::still_there, crate::proofs::Numbers::put_there))]
 fn with_number(
-    alloc: Global,
     mut numbers: BTreeMap<Name, u32>,
     name: &Name,
     number: u32,
 ) -> Result<BTreeMap<Name, u32>, AllocError>
-    ensures { IfOk result (λ more. (names : List (List ℕ)) → length names ≡ number → HasNumbers numbers names → HasNumbers more (names ++ name.now ∷ [])) }
+    ensures { IfOk result
+        (λ more. (names : List (List ℕ)) → length names ≡ number → HasNumbers numbers names
+        → HasNumbers more (names ++ name.now ∷ [])) }
 {
     if numbers.contains_key(name) {
         return Ok(numbers);
     }
-    numbers.insert(name.duplicate(alloc)?, number)?;
+    numbers.insert(name.copy()?, number)?;
     Ok(numbers)
 }

@@ -1,7 +1,7 @@
 //! The numbers of the lists that a list depends on.
 
 ghost use Rattle.std.specs.Prelude.{◌≡◌, ◌||◌, [], ℕ, option_to_list, IfOk};
-ghost use Rattle.spec_order.specs.Turns.{has};
+ghost use Rattle.spec_order.specs.DependencyOrder.{has};
 
 use crate::marks::{is_marked, with_mark};
 use std::alloc::{AllocError, Global};
@@ -16,7 +16,7 @@ pub(crate) struct Needs {
 
 impl Model for Needs {
     ghost use Rattle.std.specs.Prelude.{◌≡◌, ℕ, List};
-    ghost use Rattle.spec_order.specs.Turns.{has};
+    ghost use Rattle.spec_order.specs.DependencyOrder.{has};
     ghost use Rattle.gl_plan_faults.specs.Marked.{is_marked};
 
     ghost Value = { List ℕ };
@@ -52,9 +52,10 @@ impl Needs {
     }
 
     /// The numbers with this one, once. They are given up where memory runs out.
-    #[tactic(auto, using(crate::proofs::Building::has_already, crate::proofs::Building::has_pushed, crate::proofs::Building::has_no_more, crate::proofs::Marking::marks_pushed))]
+    #[tactic(auto, using(crate::proofs::Built::has_already, crate::proofs::Built::has_pushed, crate::proofs::Built::has_no_more, crate::proofs::MarkedNumbers::marks_pushed))]
     pub(crate) fn with(self, number: Option<u32>) -> Result<Needs, AllocError>
-        ensures { IfOk result (λ more. (b : ℕ) → has more b ≡ (has self b || has (option_to_list number) b)) }
+        ensures { IfOk result
+            (λ more. (b : ℕ) → has more b ≡ (has self b || has (option_to_list number) b)) }
     {
         let Some(number) = number else {
             return Ok(self);

@@ -3,7 +3,7 @@
 ghost use Rattle.std.specs.Prelude.{◌≡◌, ◌<◌, ◌^◌, ◌++◌, ◌∷◌, [], List, ◌||◌, ◌&&◌, ◌==◌};
 ghost use Rattle.gl_lines.specs.declared.line.NumberedLine.{NumberedLine as Numbered};
 ghost use Rattle.spec_plans.specs.Place.{first_misplaced, is_out_of_place, is_too_many, place_fault};
-ghost use Rattle.gl_plan_faults.specs.Before.{StandsBehind};
+ghost use Rattle.gl_plan_faults.specs.Before.{StandsAfter};
 
 use crate::line::{
     is_command, is_declaration, is_end, is_limit, is_list, is_listener, is_section, is_writer,
@@ -25,7 +25,7 @@ pub struct Before {
 impl Before {
     /// No lines.
     pub fn nothing() -> Before
-        ensures { StandsBehind result [] }
+        ensures { StandsAfter result [] }
     {
         Before {
             limited: false,
@@ -38,7 +38,8 @@ impl Before {
     }
 
     fn is_out_of_place(&self, line: &Line) -> bool
-        ensures { (lines : List Numbered) → StandsBehind self.now lines → result ≡ is_out_of_place lines line.now }
+        ensures { (lines : List Numbered) → StandsAfter self.now lines
+            → result ≡ is_out_of_place lines line.now }
     {
         is_end(line)
             || (is_declaration(line) && self.written)
@@ -48,16 +49,18 @@ impl Before {
     }
 
     fn is_too_many(&self, line: &Line) -> bool
-        ensures { (lines : List Numbered) → StandsBehind self.now lines → result ≡ is_too_many lines line.now }
+        ensures { (lines : List Numbered) → StandsAfter self.now lines
+            → result ≡ is_too_many lines line.now }
     {
         (is_list(line) && self.lists == 256)
             || (is_listener(line) && self.listeners == 256)
             || (is_writer(line) && self.writers == 64)
     }
 
-    /// What is wrong with the place of a line behind them, if anything is.
+    /// What is wrong with the place of a line after them, if anything is.
     pub fn fault(&self, line: &Line) -> Option<PlanKind>
-        ensures { (lines : List Numbered) → StandsBehind self.now lines → result ≡ place_fault lines line.now }
+        ensures { (lines : List Numbered) → StandsAfter self.now lines
+            → result ≡ place_fault lines line.now }
     {
         if self.is_out_of_place(line) {
             Some(PlanKind::Place)
@@ -73,7 +76,8 @@ impl Before {
         requires lists { self.now.lists < 2 ^ 63 }
         requires listeners { self.now.listeners < 2 ^ 63 }
         requires writers { self.now.writers < 2 ^ 63 }
-        ensures { (lines : List Numbered) (l : Numbered) → l.what ≡ line.now → StandsBehind self.now lines → StandsBehind result (lines ++ l ∷ []) }
+        ensures { (lines : List Numbered) (l : Numbered) → l.what ≡ line.now
+            → StandsAfter self.now lines → StandsAfter result (lines ++ l ∷ []) }
     {
         Before {
             limited: self.limited || is_limit(line),

@@ -2,7 +2,7 @@
 
 ghost use Rattle.std.specs.Prelude.{◌≡◌, ◌≤◌, ◌<◌, ◌^◌, ◌||◌, ◌++◌, ℕ, length, map, option_map, option_to_list, IfOk};
 ghost use Rattle.std.specs.List.{list_any};
-ghost use Rattle.spec_order.specs.Turns.{has};
+ghost use Rattle.spec_order.specs.DependencyOrder.{has};
 ghost use Rattle.spec_plans.specs.Lines.{head_of, hearer_of};
 ghost use Rattle.spec_plans.specs.Names.{heads, hearers, list_names, listener_names, is_over_proxy, is_pumped, numbers_in};
 ghost use Rattle.gl_plan_faults.specs.Seen.{head_seen};
@@ -19,7 +19,7 @@ use spec_plans::ListClass;
 use std::alloc::{AllocError, Global};
 
 /// The names of the lists, by number. It takes memory for them, and time in proportion to the lines, times a logarithm.
-#[tactic(auto, using(crate::proofs::Building::few_lists, crate::proofs::Building::lists_more))]
+#[tactic(auto, using(crate::proofs::Built::few_lists, crate::proofs::Built::lists_more))]
 pub fn names_of_lists(alloc: Global, lines: &[NumberedLine]) -> Result<NameTable, AllocError>
     requires { length (heads lines.now) ≤ 256 }
     ensures { IfOk result (λ table. table ≡ list_names lines.now) }
@@ -34,7 +34,9 @@ pub fn names_of_lists(alloc: Global, lines: &[NumberedLine]) -> Result<NameTable
 // The names with that of a list more, where the line declares one.
 fn with_list(table: NameTable, line: &Line) -> Result<NameTable, AllocError>
     requires { length table < 2 ^ 32 }
-    ensures { IfOk result (λ more. more ≡ table ++ option_to_list (option_map (λ h. h.name.name) (head_of line.now))) }
+    ensures { IfOk result
+        (λ more. more
+        ≡ table ++ option_to_list (option_map (λ h. h.name.name) (head_of line.now))) }
 {
     match list_head(line) {
         Some(head) => table.with(&head.name.name),
@@ -43,7 +45,7 @@ fn with_list(table: NameTable, line: &Line) -> Result<NameTable, AllocError>
 }
 
 /// The names of the listeners, by number, as those of the lists.
-#[tactic(auto, using(crate::proofs::Building::few_listeners, crate::proofs::Building::listeners_more))]
+#[tactic(auto, using(crate::proofs::Built::few_listeners, crate::proofs::Built::listeners_more))]
 pub fn names_of_listeners(alloc: Global, lines: &[NumberedLine]) -> Result<NameTable, AllocError>
     requires { length (hearers lines.now) ≤ 256 }
     ensures { IfOk result (λ table. table ≡ listener_names lines.now) }
@@ -58,7 +60,9 @@ pub fn names_of_listeners(alloc: Global, lines: &[NumberedLine]) -> Result<NameT
 // The names with that of a listener more, where the line declares one.
 fn with_listener(table: NameTable, line: &Line) -> Result<NameTable, AllocError>
     requires { length table < 2 ^ 32 }
-    ensures { IfOk result (λ more. more ≡ table ++ option_to_list (option_map (λ h. h.name.name) (hearer_of line.now))) }
+    ensures { IfOk result
+        (λ more. more
+        ≡ table ++ option_to_list (option_map (λ h. h.name.name) (hearer_of line.now))) }
 {
     match listener_head(line) {
         Some(head) => table.with(&head.name.name),
@@ -67,7 +71,7 @@ fn with_listener(table: NameTable, line: &Line) -> Result<NameTable, AllocError>
 }
 
 /// The lists that the lines declare, by their names.
-#[tactic(auto, using(crate::proofs::Building::listed_more))]
+#[tactic(auto, using(crate::proofs::Built::listed_more))]
 pub(crate) fn listed(
     alloc: Global,
     lines: &[NumberedLine],
@@ -84,7 +88,7 @@ pub(crate) fn listed(
 }
 
 // The lists with one more, where the line declares one.
-#[tactic(auto, using(crate::proofs::Building::listed_one, crate::proofs::Building::listed_none))]
+#[tactic(auto, using(crate::proofs::Built::listed_one, crate::proofs::Built::listed_none))]
 fn with_listed(
     alloc: Global,
     mut lists: Vec<Listed>,
@@ -108,7 +112,10 @@ fn with_listed(
 
 // The numbers of the lists that a list depends on.
 fn needs_of(alloc: Global, names: &NameTable, head: &ListHead<'_>) -> Result<Needs, AllocError>
-    ensures { IfOk result (λ needs. (b : ℕ) → has needs b ≡ has (numbers_in names.now ((head_seen head.now).inputs ++ (head_seen head.now).may)) b) }
+    ensures { IfOk result
+        (λ needs. (b : ℕ)
+        → has needs b
+        ≡ has (numbers_in names.now ((head_seen head.now).inputs ++ (head_seen head.now).may)) b) }
 {
     let inputs = with_numbers(Needs::new(alloc), names, head.inputs)?;
     let needs = with_numbers(inputs, names, head.may)?;
@@ -117,7 +124,8 @@ fn needs_of(alloc: Global, names: &NameTable, head: &ListHead<'_>) -> Result<Nee
 
 // Numbers with those of these names.
 fn with_numbers(mut needs: Needs, names: &NameTable, listed: &[Named]) -> Result<Needs, AllocError>
-    ensures { IfOk result (λ more. (b : ℕ) → has more b ≡ (has needs b || has (numbers_in names.now listed.now) b)) }
+    ensures { IfOk result
+        (λ more. (b : ℕ) → has more b ≡ (has needs b || has (numbers_in names.now listed.now) b)) }
 {
     for named in listed {
         needs = needs.with(names.number(&named.name))?;
@@ -126,7 +134,7 @@ fn with_numbers(mut needs: Needs, names: &NameTable, listed: &[Named]) -> Result
 }
 
 /// Whether each list is a proxy or depends on one, by number. It goes over the lists as often as there are lists.
-#[tactic(auto, using(crate::proofs::Reaching::reached_first, crate::proofs::Reaching::reached_more, crate::proofs::Reaching::reached_all))]
+#[tactic(auto, using(crate::proofs::Reach::reached_first, crate::proofs::Reach::reached_more, crate::proofs::Reach::reached_all))]
 pub(crate) fn over_proxies(
     alloc: Global,
     lines: &[NumberedLine],

@@ -103,7 +103,7 @@ const CASES: [Case<'static>; 10] = [
 
 fn named(rt: &(impl Abort + AllocGlobal), name: &[u8], column: u64) -> Named {
     match Text::from_utf8(rt.alloc(), name) {
-        Ok(text) => match gl_names::Name::new(text) {
+        Ok(text) => match gl_value::Name::new(text) {
             Ok(name) => Named { name, column },
             Err(_) => panic!(rt; "no name"),
         },

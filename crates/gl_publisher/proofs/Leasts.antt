@@ -4,9 +4,7 @@ use Rattle.std.proofs.lemmas.Bool.{cases_lt}
 use Rattle.std.proofs.lemmas.List.{take_more}
 use Rattle.std.proofs.lemmas.List.Elements.{Contains-append_left, Contains-push, Contains-push_cases}
 use Rattle.gl_publisher.specs.Shortest.{IsLeast, IsLeastAt, lesser}
-
-same_some : (m d : ℕ) → Some m ≡ Some d → m ≡ d
-same_some m d e = cc
+use Rattle.spec_basics.proofs.Options.{same_some}
 
 least_push : (f : ℕ × ℕ → Option ℕ) (ps : List (ℕ × ℕ)) (p : ℕ × ℕ) (o v : Option ℕ) → f p ≡ v → IsLeast f ps o → IsLeast f (ps ++ p ∷ []) (lesser o v)
 least_push f ps p None None e h = λ q c. elim (Contains-push_cases ps p q c) as (λ _. f q ≡ None) [ inl k ↦ h q k | inr s ↦ ap f (sym s) ∙ e ]

@@ -6,7 +6,7 @@ use Rattle.std.proofs.lemmas.List.{take_more}
 use Rattle.std.proofs.lemmas.List.Elements.{Contains-append_left, Contains-push, Contains-push_cases}
 use Rattle.spec_order.proofs.Members.{Contains-cons_cases, Contains-here, Contains-later, Contains-nil}
 use Rattle.gl_publisher.specs.Distances.{IsDependent, IsRelatedToSome, HasStep, IsWithin, distance_of, unknown_count, EndsWith, Finds, AreDistances}
-use Rattle.gl_publisher.proofs.Finding.{finds_join, finds_same}
+use Rattle.gl_publisher.proofs.Finds.{finds_join, finds_same}
 
 pair_is : (p : ℕ × ℕ) (y a : ℕ) → p.0 ≡ y → p.1 ≡ a → p ≡ (y, a)
 pair_is p y a e f = ap (λ x. (x, p.1)) e ∙ ap (λ x. (y, x)) f

@@ -1,6 +1,6 @@
-pub mod Counting
+pub mod Counts
 pub mod Cycles
-pub mod Finding
+pub mod Finds
 pub mod Leasts
 pub mod Levels
 pub mod OpenCounts

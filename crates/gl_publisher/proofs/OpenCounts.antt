@@ -7,7 +7,7 @@ use Rattle.std.proofs.lemmas.List.Elements.{All-filter, All-map}
 use Rattle.std.proofs.lemmas.List.Sorted.{All-permutation, sum_by-IsPermutation}
 use Rattle.std.proofs.lemmas.List.Sums.{sum_by-cons}
 use Rattle.spec_order.specs.Edges.{DependsOn, AreWithin}
-use Rattle.spec_order.specs.Turns.{has}
+use Rattle.spec_order.specs.DependencyOrder.{has}
 use Rattle.spec_order.proofs.Members.{Contains-cons_cases, Contains-here, Contains-later, Contains-nil, has-true, true_from_Contains, hit, hit_same, hit_other}
 use Rattle.gl_publisher.specs.Waiting.{ends_with}
 
@@ -131,14 +131,14 @@ ends_in_part k a (p ∷ ps) =
           omega (arith, ap (λ zs. ends_with zs a) kept)
     ]
 
-sum_turned : (k a : ℕ) (edges : List (ℕ × ℕ)) → sum_by (λ p. edge_weight k a (turn p)) (map turn edges) ≡ edge_count edges k a
-sum_turned k a [] = refl
-sum_turned k a (e ∷ es) = omega (arith, sum_by-cons (λ p. edge_weight k a (turn p)) (turn e) (map turn es), sum_turned k a es)
+sum_inverse : (k a : ℕ) (edges : List (ℕ × ℕ)) → sum_by (λ p. edge_weight k a (turn p)) (map turn edges) ≡ edge_count edges k a
+sum_inverse k a [] = refl
+sum_inverse k a (e ∷ es) = omega (arith, sum_by-cons (λ p. edge_weight k a (turn p)) (turn e) (map turn es), sum_inverse k a es)
 
 -- the pairs of k among the turned edges
 pub ends_with_part : (edges pairs : List (ℕ × ℕ)) (k a : ℕ) → IsPermutation (map turn edges) pairs → ends_with (filter (λ p. p.0 == k) pairs) a ≡ edge_count edges k a
 ends_with_part edges pairs k a perm =
-    ends_in_part k a pairs ∙ (sum_by-IsPermutation (λ p. edge_weight k a (turn p)) (map turn edges) pairs perm ∙ sum_turned k a edges)
+    ends_in_part k a pairs ∙ (sum_by-IsPermutation (λ p. edge_weight k a (turn p)) (map turn edges) pairs perm ∙ sum_inverse k a edges)
 
 pub part_within : (n : ℕ) (edges pairs : List (ℕ × ℕ)) (k : ℕ) → AreWithin n edges → IsPermutation (map turn edges) pairs → All (λ p. p.1 < n) (filter (λ p. p.0 == k) pairs)
 part_within n edges pairs k ends perm =

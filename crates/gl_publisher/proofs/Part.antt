@@ -24,14 +24,14 @@ pub part_of_key : {X : Type 0} (n : X → ℕ) (key i j : ℕ) (xs ys : List X) 
 part_of_key {X} n key i j xs ys i_in ys_is j_in high low =
     let p : X → Bool = λ y. n y == key in
     let past : filter p (drop i xs) ≡ [] = filter_none p (drop i xs) (λ k d l. past_at k d l) in
-    let front : filter p (take j ys) ≡ [] = filter_none p (take j ys) (λ k d l. front_at k d l) in
+    let prefix : filter p (take j ys) ≡ [] = filter_none p (take j ys) (λ k d l. prefix_at k d l) in
     let mid : filter p (drop j ys) ≡ drop j ys = filter_all p (drop j ys) (λ k d l. mid_at k d l) in
     let split_xs : filter p (take i xs) ++ filter p (drop i xs) ≡ filter p xs = sym (filter-append p (take i xs) (drop i xs)) ∙ ap (filter p) (take-append-drop i xs) in
     let split_ys : filter p (take j ys) ++ filter p (drop j ys) ≡ filter p ys = sym (filter-append p (take j ys) (drop j ys)) ∙ ap (filter p) (take-append-drop j ys) in
     let shorter : filter p (take i xs) ≡ filter p xs =
     sym (append-nil (filter p (take i xs))) ∙ (ap (λ zs. filter p (take i xs) ++ zs) (sym past) ∙ split_xs) in
     let longer : drop j ys ≡ filter p ys =
-    sym mid ∙ (ap (λ zs. zs ++ filter p (drop j ys)) (sym front) ∙ split_ys) in
+    sym mid ∙ (ap (λ zs. zs ++ filter p (drop j ys)) (sym prefix) ∙ split_ys) in
     longer ∙ (ap (filter p) ys_is ∙ shorter)
   where
     past_at : (k : ℕ) (d : X) → k < length (drop i xs) → (n (get_or (drop i xs) k d) == key) ≡ false
@@ -41,8 +41,8 @@ part_of_key {X} n key i j xs ys i_in ys_is j_in high low =
         let above = leb-false (n (get_or xs (i + k) d)) key (high.1 (i + k) d (omega arith) (omega arith)) in
         ap (λ x. n x == key) e ∙ ne_eqb (n (get_or xs (i + k) d)) key (λ q. omega arith)
 
-    front_at : (k : ℕ) (d : X) → k < length (take j ys) → (n (get_or (take j ys) k d) == key) ≡ false
-    front_at k d l =
+    prefix_at : (k : ℕ) (d : X) → k < length (take j ys) → (n (get_or (take j ys) k d) == key) ≡ false
+    prefix_at k d l =
         let size = length-take-le j ys j_in in
         let lt : k < j = omega arith in
         let e = get_or-take j ys k d lt in

@@ -28,30 +28,30 @@ first_from_shortest edges others start cycle perm s none =
       earliest = λ ys w e. s.earliest ys (walk_same edges others to start start ys w) e;
     }))
 
-turned_to : (edges : List (ℕ × ℕ)) (a b : ℕ) → DependsOn edges a b → Contains (map turn edges) (b, a)
-turned_to [] a b h = absurd (Contains-nil (a, b) h)
-turned_to (e ∷ es) a b h =
+inverse_to : (edges : List (ℕ × ℕ)) (a b : ℕ) → DependsOn edges a b → Contains (map turn edges) (b, a)
+inverse_to [] a b h = absurd (Contains-nil (a, b) h)
+inverse_to (e ∷ es) a b h =
     elim (Contains-cons_cases e es (a, b) h) as (λ _. Contains (map turn (e ∷ es)) (b, a)) [
       | inl q ↦ Contains-here (turn e) (map turn es) (b, a) (ap turn q)
-      | inr later ↦ Contains-later (turn e) (map turn es) (b, a) (turned_to es a b later)
+      | inr later ↦ Contains-later (turn e) (map turn es) (b, a) (inverse_to es a b later)
     ]
 
-turned_from : (edges : List (ℕ × ℕ)) (a b : ℕ) → Contains (map turn edges) (b, a) → DependsOn edges a b
-turned_from [] a b h = absurd (Contains-nil (b, a) h)
-turned_from (e ∷ es) a b h =
+inverse_from : (edges : List (ℕ × ℕ)) (a b : ℕ) → Contains (map turn edges) (b, a) → DependsOn edges a b
+inverse_from [] a b h = absurd (Contains-nil (b, a) h)
+inverse_from (e ∷ es) a b h =
     elim (Contains-cons_cases (turn e) (map turn es) (b, a) h) as (λ _. DependsOn (e ∷ es) a b) [
       | inl q ↦ Contains-here e es (a, b) (ap turn q)
-      | inr later ↦ Contains-later e es (a, b) (turned_from es a b later)
+      | inr later ↦ Contains-later e es (a, b) (inverse_from es a b later)
     ]
 
 -- the edges in another order, against their turned ones in another order
 pub depends_from_dependent : (edges dependencies dependents : List (ℕ × ℕ)) → IsPermutation edges dependencies → IsPermutation (map turn edges) dependents → (a b : ℕ) → IsDependent dependents a b → DependsOn dependencies a b
 depends_from_dependent edges dependencies dependents p q a b h =
-    Contains-permutation edges dependencies (a, b) p (turned_from edges a b (Contains-permutation dependents (map turn edges) (b, a) (IsPermutation-sym (map turn edges) dependents q) h))
+    Contains-permutation edges dependencies (a, b) p (inverse_from edges a b (Contains-permutation dependents (map turn edges) (b, a) (IsPermutation-sym (map turn edges) dependents q) h))
 
 pub dependent_from_depends : (edges dependencies dependents : List (ℕ × ℕ)) → IsPermutation edges dependencies → IsPermutation (map turn edges) dependents → (a b : ℕ) → DependsOn dependencies a b → IsDependent dependents a b
 dependent_from_depends edges dependencies dependents p q a b h =
-    Contains-permutation (map turn edges) dependents (b, a) q (turned_to edges a b (Contains-permutation dependencies edges (a, b) (IsPermutation-sym edges dependencies p) h))
+    Contains-permutation (map turn edges) dependents (b, a) q (inverse_to edges a b (Contains-permutation dependencies edges (a, b) (IsPermutation-sym edges dependencies p) h))
 
 pub distances_same : {n start : ℕ} {distances : List (Option ℕ)} {R S : ℕ → ℕ → Type 0} → ((a b : ℕ) → R a b → S a b) → ((a b : ℕ) → S a b → R a b) → AreDistances n R start distances → AreDistances n S start distances
 distances_same {n} {start} {distances} {R} {S} to from at = record {
@@ -77,6 +77,6 @@ distances_at {n} {start} {R} table others e at =
     (subst (λ (m : ℕ). AreDistances m R start table) (sym at.size) at)
 
 -- distances by the turned edges are distances by the edges
-pub distances_turned : {n start : ℕ} {distances : List (Option ℕ)} (edges dependencies dependents : List (ℕ × ℕ)) → IsPermutation edges dependencies → IsPermutation (map turn edges) dependents → AreDistances n (IsDependent dependents) start distances → AreDistances n (DependsOn dependencies) start distances
-distances_turned edges dependencies dependents p q at =
+pub distances_inverse : {n start : ℕ} {distances : List (Option ℕ)} (edges dependencies dependents : List (ℕ × ℕ)) → IsPermutation edges dependencies → IsPermutation (map turn edges) dependents → AreDistances n (IsDependent dependents) start distances → AreDistances n (DependsOn dependencies) start distances
+distances_inverse edges dependencies dependents p q at =
     distances_same (depends_from_dependent edges dependencies dependents p q) (dependent_from_depends edges dependencies dependents p q) at

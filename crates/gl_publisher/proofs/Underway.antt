@@ -8,12 +8,12 @@ use Rattle.std.proofs.lemmas.Bool.{cases_lt, cases_eq, cases_Bool, and_parts, an
 use Rattle.std.proofs.lemmas.Bool.Decides.{nat_tests}
 use Rattle.std.proofs.lemmas.List.{get_or_default, get_or_past, get_or-take, length-take-le}
 use Rattle.spec_order.specs.Edges.{DependsOn, AreWithin}
-use Rattle.spec_order.specs.Order.{IsReady, IsNext, IsFront}
+use Rattle.spec_order.specs.Order.{IsReady, IsNext, IsPrefix}
 use Rattle.spec_order.specs.Cycle.{HasCycle}
-use Rattle.spec_order.specs.Turns.{has}
+use Rattle.spec_order.specs.DependencyOrder.{has}
 use Rattle.spec_order.proofs.Members.{member, has-true, has-false}
 use Rattle.spec_order.proofs.Acyclic.{no_descent, walk_below}
-use Rattle.spec_order.proofs.Fronts.{front_push, front_nil}
+use Rattle.spec_order.proofs.Prefixes.{prefix_push, prefix_nil}
 use Rattle.spec_order.proofs.Stuck.{cycle_from_stuck}
 use Rattle.gl_publisher.specs.Waiting.{AreSettled, ends_with, is_free, Lowers, GainsFree}
 use Rattle.gl_publisher.proofs.OpenCounts.{open_count, open_count_start, open_count_push, frees_from_count, count_from_frees, has_push_same, has_push_other, turn, ends_with_part}
@@ -21,14 +21,14 @@ use Rattle.gl_publisher.proofs.OpenCounts.{open_count, open_count_start, open_co
 -- These are placed, each number's open dependencies are counted, and the set holds those that are
 -- not placed and have none.
 pub record Underway (n : ℕ) (edges : List (ℕ × ℕ)) (placed counts : List ℕ) (free : BTreeSet ℕ) : Type 0 where
-  pub front : IsFront n edges placed
+  pub prefix : IsPrefix n edges placed
   pub size : length counts ≡ n
   pub counted : (a : ℕ) → slice_index counts a ≡ open_count edges placed a
   pub ready : (a : ℕ) → contains nat_cmp free a ≡ (not (has placed a) && is_free counts a)
 
 pub underway_start : (n : ℕ) (edges : List (ℕ × ℕ)) (counts : List ℕ) (free : BTreeSet ℕ) → length counts ≡ n → ((a : ℕ) → slice_index counts a ≡ count_by (λ e. e.0 == a) edges) → ((a : ℕ) → contains nat_cmp free a ≡ is_free counts a) → Underway n edges [] counts free
 underway_start n edges counts free size counted ready = record {
-  front = front_nil n edges;
+  prefix = prefix_nil n edges;
   size = size;
   counted = λ a. counted a ∙ open_count_start edges a;
   ready = ready;
@@ -108,7 +108,7 @@ module _ {n : ℕ} {edges : List (ℕ × ℕ)} {placed counts : List ℕ} {free 
   placed_frees a c =
       let i = c.0 in
       let at_i : slice_index placed i ≡ a = get_or_default placed i 0 a c.1 ∙ c.2 in
-      let next = u.front i c.1 in (
+      let next = u.prefix i c.1 in (
         subst (λ (x : ℕ). x < n) at_i next.below,
         count_from_frees edges placed a (λ b d.
             let m = next.ready.free b (subst (λ (x : ℕ). DependsOn edges x b) (sym at_i) d) in
@@ -126,7 +126,7 @@ module _ {n : ℕ} {edges : List (ℕ × ℕ)} {placed counts : List ℕ} {free 
   -- k is placed, and what waited for it alone is free
   pub underway_step : (pairs : List (ℕ × ℕ)) (k : ℕ) (later : List ℕ) (mid after : BTreeSet ℕ) → IsPermutation (map turn edges) pairs → contains nat_cmp free k ≡ true → IsLowerBound nat_cmp free k → Updates nat_cmp free mid k false → Lowers (filter (λ p. p.0 == k) pairs) counts later → GainsFree counts later mid after → Underway n edges (placed ++ k ∷ []) later after
   underway_step pairs k later mid after perm t low updates lowers gains = record {
-    front = front_push n edges placed k u.front (next_from_least k t low);
+    prefix = prefix_push n edges placed k u.prefix (next_from_least k t low);
     size = lowers.size ∙ u.size;
     counted = counted_later;
     ready = λ a. elim (cases_eq k a) as (λ _. contains nat_cmp after a ≡ (not (has (placed ++ k ∷ []) a) && is_free later a)) [
@@ -171,8 +171,8 @@ module _ {n : ℕ} {edges : List (ℕ × ℕ)} {placed counts : List ℕ} {free 
       let all_placed = frees_from_count edges placed a (sym (u.counted a) ∙ zero) in
       elim (member placed a) as (λ _. ⊥) [
         | inl c ↦
-            let at_place : slice_index placed (c.0) ≡ a = get_or_default placed (c.0) 0 a c.1 ∙ c.2 in
-            no_descent n edges placed u.front (suc (c.0)) (c.0) a xs (omega arith) (record { within = c.1; there = at_place }) w
+            let at_position : slice_index placed (c.0) ≡ a = get_or_default placed (c.0) 0 a c.1 ∙ c.2 in
+            no_descent n edges placed u.prefix (suc (c.0)) (c.0) a xs (omega arith) (record { within = c.1; there = at_position }) w
         | inr lacks ↦
             let t = set_from_ready a low (record { waits = lacks; free = all_placed }) in
             let f = none a in

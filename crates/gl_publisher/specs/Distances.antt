@@ -16,17 +16,19 @@ pub record IsWithin (distances : List (Option ℕ)) (a most : ℕ) : Type 0 wher
   pub small : distance ≤ most
 
 -- a dependency of a number that is at this distance
-pub record HasStep (R : ℕ → ℕ → Type 0) (distances : List (Option ℕ)) (a distance : ℕ) : Type 0 where
-  pub on : ℕ
-  pub depends : R a on
-  pub known : distance_of distances on ≡ Some distance
+pub record HasStep (R : ℕ → ℕ → Type 0) (distances : List (Option ℕ)) (a distance : ℕ) : Type 0
+  where
+    pub on : ℕ
+    pub depends : R a on
+    pub known : distance_of distances on ≡ Some distance
 
 -- how many numbers have no distance yet
 abbrev pub unknown_count : List (Option ℕ) → ℕ
 unknown_count distances = count_by is_none distances
 
 -- Each target that had no distance has this one now, and is among those found.
-pub record Finds (IsTarget : ℕ → Type 0) (distance : ℕ) (old new : List (Option ℕ)) (before after : List ℕ) : Type 0 where
+pub record Finds (IsTarget : ℕ → Type 0) (distance : ℕ) (old new : List (Option ℕ))
+    (before after : List ℕ) : Type 0 where
   pub size : length new ≡ length old
   pub kept : (a d : ℕ) → distance_of old a ≡ Some d → distance_of new a ≡ Some d
   pub known : (a : ℕ) → IsTarget a → (d : ℕ) × (distance_of new a ≡ Some d)
@@ -48,7 +50,8 @@ pub record IsRelatedToSome (R : ℕ → ℕ → Type 0) (numbers : List ℕ) (a 
 
 -- The distances to the start along dependencies: the start's is 0, each other number with a distance
 -- depends on one that is a step nearer, and on none that is two steps nearer.
-pub record AreDistances (n : ℕ) (R : ℕ → ℕ → Type 0) (start : ℕ) (distances : List (Option ℕ)) : Type 0 where
+pub record AreDistances (n : ℕ) (R : ℕ → ℕ → Type 0) (start : ℕ)
+    (distances : List (Option ℕ)) : Type 0 where
   pub size : length distances ≡ n
   pub at_start : distance_of distances start ≡ Some 0
   pub only_start : (a : ℕ) → distance_of distances a ≡ Some 0 → a ≡ start

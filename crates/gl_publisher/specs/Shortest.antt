@@ -42,4 +42,5 @@ pub record IsShortestCycle (edges : List (ℕ × ℕ)) (start : ℕ) (cycle : Li
   pub begins : cycle ≡ start ∷ rest
   pub walk : IsWalk edges start rest start
   pub shortest : (ys : List ℕ) → IsWalk edges start ys start → length rest ≤ length ys
-  pub earliest : (ys : List ℕ) → IsWalk edges start ys start → length ys ≡ length rest → IsNoLater rest ys
+  pub earliest : (ys : List ℕ) → IsWalk edges start ys start → length ys ≡ length rest
+      → IsNoLater rest ys

@@ -21,7 +21,8 @@ pub record Lowers (pairs : List (ℕ × ℕ)) (old new : List ℕ) : Type 0 wher
 -- the set gains the numbers that have no open dependency any more
 abbrev pub GainsFree : List ℕ → List ℕ → BTreeSet ℕ → BTreeSet ℕ → Type 0
 GainsFree counts_old counts_new old new =
-    (a : ℕ) → contains nat_cmp new a ≡ (contains nat_cmp old a || (not (is_free counts_old a) && is_free counts_new a))
+    (a : ℕ) → contains nat_cmp new a
+    ≡ (contains nat_cmp old a || (not (is_free counts_old a) && is_free counts_new a))
 
 -- a number with no open dependency is on no cycle
 abbrev pub AreSettled : List (ℕ × ℕ) → List ℕ → Type 0

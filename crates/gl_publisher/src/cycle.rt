@@ -22,7 +22,7 @@ pub(crate) fn first_cycle(
 ) -> Result<Numbers, Memory>
     requires ends { AreWithin n edges.now }
     requires cyclic { HasCycle edges.now }
-    requires turned { IsPermutation (map (λ e. (e.1, e.0)) edges.now) dependents.now }
+    requires reversed { IsPermutation (map (λ e. (e.1, e.0)) edges.now) dependents.now }
     requires counted { length counts.now ≡ n }
     requires settled { AreSettled edges.now counts.now }
     ensures { IfOk result (IsFirstCycle edges.now) }

@@ -4,6 +4,7 @@
 #![tactic(auto)]
 
 mod cycle;
+mod dependency_order;
 mod distances;
 mod fault;
 mod least;
@@ -11,9 +12,8 @@ mod neighbours;
 mod numbers;
 #[cfg(test)]
 mod tests;
-mod turns;
 mod waiting;
 
+pub use dependency_order::order;
 pub use fault::{Memory, OrderFault};
 pub use numbers::Numbers;
-pub use turns::order;

@@ -40,7 +40,7 @@ impl Neighbours {
 }
 
 /// The edges the other way round.
-pub(crate) fn turned(alloc: Global, edges: &[(u32, u32)]) -> Result<Vec<(u32, u32)>, AllocError>
+pub(crate) fn reversed(alloc: Global, edges: &[(u32, u32)]) -> Result<Vec<(u32, u32)>, AllocError>
     ensures { IfOk result (λ pairs. pairs.items ≡ map (λ e. (e.1, e.0)) edges.now) }
 {
     edges.iter().map(|edge| (edge.1, edge.0)).collect(alloc)

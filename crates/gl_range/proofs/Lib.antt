@@ -1,3 +1,3 @@
-pub mod Telling
-pub mod Keeping
-pub mod Slicing
+pub mod Tellings
+pub mod Kept
+pub mod SliceBounds

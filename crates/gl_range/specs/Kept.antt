@@ -20,13 +20,18 @@ bounds_of zero a b = Head a b
 bounds_of (suc zero) a b = Tail a b
 bounds_of (suc (suc n)) a b = Middle a b
 
-pub bounds_back : (bounds : Bounds) → bounds_of (numbered bounds).0 (numbered bounds).1.0 (numbered bounds).1.1 ≡ bounds
+pub bounds_back : (bounds : Bounds)
+    → bounds_of (numbered bounds).0 (numbered bounds).1.0 (numbered bounds).1.1 ≡ bounds
 bounds_back (Head a b) = refl
 bounds_back (Tail a b) = refl
 bounds_back (Middle a b) = refl
 
 abbrev pub bounds_code : Coded Bounds
-bounds_code = code_by (ℕ × (ℕ × ℕ)) (coded× coded_ℕ (coded× coded_ℕ coded_ℕ)) numbered (λ p. bounds_of p.0 p.1.0 p.1.1) bounds_back
+bounds_code =
+    code_by (ℕ × (ℕ × ℕ)) (coded× coded_ℕ (coded× coded_ℕ coded_ℕ)) numbered
+    (λ p. bounds_of p.0 p.1.0 p.1.1) bounds_back
 
 abbrev pub kept_code : Coded Kept
-kept_code = code_by (Bounds × ℕ) (coded× bounds_code coded_ℕ) (λ k. (k.bounds, k.len)) (λ p. record { bounds = p.0; len = p.1 }) (λ _. refl)
+kept_code =
+    code_by (Bounds × ℕ) (coded× bounds_code coded_ℕ) (λ k. (k.bounds, k.len))
+    (λ p. record { bounds = p.0; len = p.1 }) (λ _. refl)

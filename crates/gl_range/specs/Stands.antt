@@ -1,6 +1,6 @@
 -- What a range stands for, and what its undos give back.
 use Rattle.std.specs.Prelude.{◌≡◌, ◌-◌, ℕ, List, length}
-use Rattle.spec_value.specs.Tree.{Tree}
+use Rattle.spec_views.specs.Tree.{Tree}
 use Rattle.spec_views.specs.Range.{start_of, end_of}
 use Rattle.gl_range.specs.Kept.{Kept}
 use Rattle.gl_range.specs.declared.range.RangeUndo.{RangeUndo}

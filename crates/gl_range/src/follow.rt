@@ -1,8 +1,8 @@
 //! What a range tells of a change of its list.
 
 ghost use Rattle.std.specs.Prelude.{◌≡◌, ◌+◌, ◌≤◌, length, IfOk, OnOk};
-ghost use Rattle.spec_lists.specs.Piece.{old_len, new_len, normal};
-ghost use Rattle.spec_lists.specs.Cells.{pieces_in};
+ghost use Rattle.spec_views.specs.Piece.{old_len, new_len, normal};
+ghost use Rattle.spec_views.specs.Cells.{pieces_in};
 ghost use Rattle.gl_delta.specs.Cells.{cell_ref};
 ghost use Rattle.gl_kernel.specs.Plans.{CanTell};
 ghost use Rattle.gl_range.specs.Told.{told_in};
@@ -26,8 +26,8 @@ pub(crate) struct Slices {
 #[derive(Drop)]
 pub(crate) struct Walk {
     pub(crate) out: Delta,
-    pub(crate) old_place: usize,
-    pub(crate) new_place: usize,
+    pub(crate) old_position: usize,
+    pub(crate) new_position: usize,
 }
 
 /// What is told of a change that leads to this list.
@@ -38,14 +38,15 @@ pub(crate) fn follow<S: Shelf>(
     d: &Delta,
 ) -> Result<Delta, AllocError>
     requires { new_len d.now.pieces ≡ length (S.items input.now) }
-    ensures { IfOk result (λ out. out.pieces ≡ normal (told_in (S.items input.now) slices 0 0 d.now.pieces)) }
+    ensures { IfOk result
+        (λ out. out.pieces ≡ normal (told_in (S.items input.now) slices 0 0 d.now.pieces)) }
 {
     let _olds = d.old_len();
     let _news = d.new_len();
     let mut walk = Walk {
         out: Delta::start(alloc),
-        old_place: 0,
-        new_place: 0,
+        old_position: 0,
+        new_position: 0,
     };
     let mut cells = d.cells();
     while let Some(cell) = cells.next() {
@@ -62,34 +63,35 @@ fn step<S: Shelf>(
     input: &S,
     cell: CellRef<'_>,
 ) -> Result<(), AllocError>
-    requires news { walk.old.new_place + new_len (pieces_in (cell_ref cell)) ≤ length (S.items input.now) }
-    requires olds { walk.old.old_place + old_len (pieces_in (cell_ref cell)) ≤ 2147483647 }
+    requires news { walk.old.new_position + new_len (pieces_in (cell_ref cell))
+        ≤ length (S.items input.now) }
+    requires olds { walk.old.old_position + old_len (pieces_in (cell_ref cell)) ≤ 2147483647 }
     requires few { length (S.items input.now) ≤ 2147483647 }
     requires can { CanTell
-        (told_in (S.items input.now) slices walk.old.old_place walk.old.new_place (pieces_in (cell_ref cell)))
+        (told_in (S.items input.now) slices walk.old.old_position walk.old.new_position (pieces_in (cell_ref cell)))
         walk.old.out.pieces }
     ensures { OnOk result (GoesOn
-        (told_in (S.items input.now) slices walk.old.old_place walk.old.new_place (pieces_in (cell_ref cell.entry)))
+        (told_in (S.items input.now) slices walk.old.old_position walk.old.new_position (pieces_in (cell_ref cell.entry)))
         (old_len (pieces_in (cell_ref cell.entry))) (new_len (pieces_in (cell_ref cell.entry))) walk.old walk.new) }
 {
     match cell {
         CellRef::Keep(n) => tell_keeps(walk, slices, input, n),
         CellRef::Update(old, new) => {
-            let was = slices.was.shows(walk.old_place);
-            let is = slices.is.shows(walk.new_place);
+            let was = slices.was.shows(walk.old_position);
+            let is = slices.is.shows(walk.new_position);
             tell_update(&mut walk.out, was, is, old, new)?;
-            walk.old_place += 1;
-            walk.new_place += 1;
+            walk.old_position += 1;
+            walk.new_position += 1;
             Ok(())
         }
         CellRef::Delete(old) => {
-            tell_delete(&mut walk.out, slices.was.shows(walk.old_place), old)?;
-            walk.old_place += 1;
+            tell_delete(&mut walk.out, slices.was.shows(walk.old_position), old)?;
+            walk.old_position += 1;
             Ok(())
         }
         CellRef::Insert(new) => {
-            tell_insert(&mut walk.out, slices.is.shows(walk.new_place), new)?;
-            walk.new_place += 1;
+            tell_insert(&mut walk.out, slices.is.shows(walk.new_position), new)?;
+            walk.new_position += 1;
             Ok(())
         }
     }

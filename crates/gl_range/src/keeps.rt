@@ -1,7 +1,7 @@
 //! What a range tells of elements that its list keeps.
 
 ghost use Rattle.std.specs.Prelude.{◌≡◌, ◌+◌, ◌++◌, ◌<◌, ◌≤◌, length, replicate, OnOk};
-ghost use Rattle.spec_lists.specs.Piece.{kept, normal};
+ghost use Rattle.spec_views.specs.Piece.{kept, normal};
 ghost use Rattle.gl_kernel.specs.Plans.{CanTell};
 ghost use Rattle.gl_range.specs.Told.{told_in, told_alike};
 ghost use Rattle.gl_range.specs.Walks.{GoesOn};
@@ -20,26 +20,24 @@ pub(crate) fn tell_keeps<S: Shelf>(
     input: &S,
     n: usize,
 ) -> Result<(), AllocError>
-    requires news { walk.old.new_place + n ≤ length (S.items input.now) }
-    requires olds { walk.old.old_place + n ≤ 2147483647 }
+    requires news { walk.old.new_position + n ≤ length (S.items input.now) }
+    requires olds { walk.old.old_position + n ≤ 2147483647 }
     requires few { length (S.items input.now) ≤ 2147483647 }
     requires can { CanTell
-        (told_in (S.items input.now) slices walk.old.old_place walk.old.new_place (replicate n kept))
+        (told_in (S.items input.now) slices walk.old.old_position walk.old.new_position (replicate n kept))
         walk.old.out.pieces }
     ensures { OnOk result (GoesOn
-        (told_in (S.items input.now) slices walk.old.old_place walk.old.new_place (replicate n kept))
+        (told_in (S.items input.now) slices walk.old.old_position walk.old.new_position (replicate n kept))
         n n walk.old walk.new) }
 {
     let mut left = n;
     'stretches: while 0 < left {
-        let size = slices
-            .is
-            .alike(walk.new_place, slices.was.alike(walk.old_place, left));
-        let was = slices.was.shows(walk.old_place);
-        let is = slices.is.shows(walk.new_place);
-        tell_alike(&mut walk.out, was, is, input, walk.new_place, size)?;
-        walk.old_place += size;
-        walk.new_place += size;
+        let size = slices.is.alike(walk.new_position, slices.was.alike(walk.old_position, left));
+        let was = slices.was.shows(walk.old_position);
+        let is = slices.is.shows(walk.new_position);
+        tell_alike(&mut walk.out, was, is, input, walk.new_position, size)?;
+        walk.old_position += size;
+        walk.new_position += size;
         left -= size;
     }
     let _normal = walk.out.old_len();
@@ -52,19 +50,21 @@ fn tell_alike<S: Shelf>(
     was: bool,
     is: bool,
     input: &S,
-    place: usize,
+    position: usize,
     n: usize,
 ) -> Result<(), AllocError>
-    requires within { place + n ≤ length (S.items input.now) }
+    requires within { position + n ≤ length (S.items input.now) }
     requires few { length (S.items input.now) ≤ 2147483647 }
-    requires can { CanTell (told_alike (S.items input.now) was is place n) out.old.pieces }
-    ensures { OnOk result (out.new.pieces ≡ normal (out.old.pieces ++ told_alike (S.items input.now) was is place n)) }
+    requires can { CanTell (told_alike (S.items input.now) was is position n) out.old.pieces }
+    ensures { OnOk result
+        (out.new.pieces
+        ≡ normal (out.old.pieces ++ told_alike (S.items input.now) was is position n)) }
 {
     match (was, is) {
         (true, true) => tell(out, Cell::Keep(n)),
         (false, false) => tell(out, Cell::Keep(0)),
-        (true, false) => tell_each(out, was, is, input, place, n),
-        (false, true) => tell_each(out, was, is, input, place, n),
+        (true, false) => tell_each(out, was, is, input, position, n),
+        (false, true) => tell_each(out, was, is, input, position, n),
     }
 }
 
@@ -74,15 +74,17 @@ fn tell_each<S: Shelf>(
     was: bool,
     is: bool,
     input: &S,
-    place: usize,
+    position: usize,
     n: usize,
 ) -> Result<(), AllocError>
-    requires within { place + n ≤ length (S.items input.now) }
+    requires within { position + n ≤ length (S.items input.now) }
     requires few { length (S.items input.now) ≤ 2147483647 }
-    requires can { CanTell (told_alike (S.items input.now) was is place n) out.old.pieces }
-    ensures { OnOk result (out.new.pieces ≡ normal (out.old.pieces ++ told_alike (S.items input.now) was is place n)) }
+    requires can { CanTell (told_alike (S.items input.now) was is position n) out.old.pieces }
+    ensures { OnOk result
+        (out.new.pieces
+        ≡ normal (out.old.pieces ++ told_alike (S.items input.now) was is position n)) }
 {
-    'elements: for at in place..place + n {
+    'elements: for at in position..position + n {
         tell_kept(out, was, is, element(input, at))?;
     }
     let _normal = out.old_len();

@@ -64,7 +64,7 @@ impl Kernel for RangeKernel {
         RangeKernel::len(self)
     }
 
-    fn find(&self, place: usize) -> Option<Find<'_>> {
-        RangeKernel::find(self, place)
+    fn find(&self, position: usize) -> Option<Find<'_>> {
+        RangeKernel::find(self, position)
     }
 }

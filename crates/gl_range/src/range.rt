@@ -1,9 +1,9 @@
 //! A range.
 
 ghost use Rattle.std.specs.Prelude.{◌≡◌, ◌↔◌, ◌<◌, ◌≤◌, List, length, map, slice_get, IfOk, OnOk, OnErr, IsOk, IsSome};
-ghost use Rattle.spec_value.specs.Tree.{Tree};
-ghost use Rattle.spec_lists.specs.Piece.{turned};
-ghost use Rattle.spec_lists.specs.Leads.{LeadsTo, applied};
+ghost use Rattle.spec_views.specs.Tree.{Tree};
+ghost use Rattle.spec_views.specs.Piece.{inverted};
+ghost use Rattle.spec_views.specs.Leads.{LeadsTo, applied};
 ghost use Rattle.spec_views.specs.Range.{range_view, range_follow, range_change};
 ghost use Rattle.gl_kernel.specs.Found.{found};
 ghost use Rattle.gl_range.specs.Stands.{StandsFor, before, shown_len};
@@ -73,9 +73,10 @@ impl RangeKernel {
         steps: &mut Steps<L>,
     ) -> Result<(Delta, RangeUndo), AllocError>
         requires leads { LeadsTo d.now.pieces (S.items input.now) }
-        requires stands { StandsFor self.old (applied (map turned d.now.pieces) (S.items input.now)) }
+        requires stands { StandsFor self.old
+            (applied (map inverted d.now.pieces) (S.items input.now)) }
         ensures pieces { IfOk result (λ told. told.0.pieces
-            ≡ range_follow self.old.bounds (applied (map turned d.now.pieces) (S.items input.now)) d.now.pieces) }
+            ≡ range_follow self.old.bounds (applied (map inverted d.now.pieces) (S.items input.now)) d.now.pieces) }
         ensures stands { OnOk result (StandsFor self.new (S.items input.now)) }
         ensures undo { IfOk result (λ told. before told.1 ≡ self.old) }
         ensures err { OnErr result (self.new ≡ self.old) }
@@ -103,7 +104,8 @@ impl RangeKernel {
     ) -> Result<(Delta, RangeUndo), AllocError>
         requires stands { StandsFor self.old (S.items input.now) }
         requires few { length (S.items input.now) ≤ 2147483647 }
-        ensures pieces { IfOk result (λ told. told.0.pieces ≡ range_change self.old.bounds param (S.items input.now)) }
+        ensures pieces { IfOk result
+            (λ told. told.0.pieces ≡ range_change self.old.bounds param (S.items input.now)) }
         ensures stands { OnOk result (StandsFor self.new (S.items input.now)) }
         ensures bounds { OnOk result (self.new.bounds ≡ param) }
         ensures undo { IfOk result (λ told. before told.1 ≡ self.old) }
@@ -115,8 +117,8 @@ impl RangeKernel {
         };
         let mut walk = Walk {
             out: Delta::start(self.alloc),
-            old_place: 0,
-            new_place: 0,
+            old_position: 0,
+            new_position: 0,
         };
         tell_keeps(&mut walk, slices, input, self.len)?;
         let undo = self.kept();
@@ -145,7 +147,8 @@ impl RangeKernel {
 
     /// How many elements are shown.
     pub fn len(&self) -> usize
-        ensures view { (xs : List Tree) → StandsFor self.now xs → result ≡ length (range_view self.now.bounds xs) }
+        ensures view { (xs : List Tree) → StandsFor self.now xs
+            → result ≡ length (range_view self.now.bounds xs) }
         ensures len { result ≡ shown_len self.now }
     {
         let slice = Slice::new(self.bounds, self.len);
@@ -153,14 +156,14 @@ impl RangeKernel {
     }
 
     /// Where the element that is shown at a place stands, or `None` exactly where the place isn't below the length.
-    pub fn find(&self, place: usize) -> Option<Find<'_>>
+    pub fn find(&self, position: usize) -> Option<Find<'_>>
         ensures view { (xs : List Tree) → StandsFor self.now xs
-            → found result xs ≡ slice_get (range_view self.now.bounds xs) place }
-        ensures some { IsSome result ↔ (place < shown_len self.now) }
+            → found result xs ≡ slice_get (range_view self.now.bounds xs) position }
+        ensures some { IsSome result ↔ (position < shown_len self.now) }
     {
-        if place < self.len() {
+        if position < self.len() {
             let slice = Slice::new(self.bounds, self.len);
-            Some(Find::Input(slice.start + place))
+            Some(Find::Input(slice.start + position))
         } else {
             None
         }

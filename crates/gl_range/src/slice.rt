@@ -36,24 +36,24 @@ impl Slice {
     }
 
     /// Whether the element at a place is shown.
-    pub(crate) fn shows(self, place: usize) -> bool
-        ensures { result ≡ shows self place }
+    pub(crate) fn shows(self, position: usize) -> bool
+        ensures { result ≡ shows self position }
     {
-        self.start <= place && place < self.end
+        self.start <= position && position < self.end
     }
 
     /// How many elements from a place on are shown or hidden as the one there is: as many as there are up to the next
     /// end of the slice, and no more than `most`.
-    pub(crate) fn alike(self, place: usize, most: usize) -> usize
+    pub(crate) fn alike(self, position: usize, most: usize) -> usize
         requires { 0 < most }
         ensures some { 0 < result }
         ensures most { result ≤ most }
-        ensures alike { AreAlike self place result }
+        ensures alike { AreAlike self position result }
     {
-        if place < self.start {
-            most.min(self.start - place)
-        } else if place < self.end {
-            most.min(self.end - place)
+        if position < self.start {
+            most.min(self.start - position)
+        } else if position < self.end {
+            most.min(self.end - position)
         } else {
             most
         }

@@ -1,5 +1,5 @@
 ghost use Rattle.std.specs.Prelude.{◌≡◌, ◌<◌, ◌≤◌, length};
-ghost use Rattle.spec_lists.specs.Leads.{IsDelta};
+ghost use Rattle.spec_views.specs.Leads.{IsDelta};
 
 use crate::RangeKernel;
 use gl_delta::Find;
@@ -11,16 +11,16 @@ use std::marker::Brand;
 use std::sync::ledger::{Blank, Ledger};
 use std::test::Fail;
 
-fn finds(range: &RangeKernel, input: &Values, place: usize, n: i64) -> bool {
-    match range.find(place) {
+fn finds(range: &RangeKernel, input: &Values, position: usize, n: i64) -> bool {
+    match range.find(position) {
         Some(Find::Input(at)) => input.get(at).is_some_and(|v| is_number(v, n)),
         _ => false,
     }
 }
 
 fn shows(range: &RangeKernel, input: &Values, shown: &[i64]) -> bool {
-    for place in 0..shown.len() {
-        if !finds(range, input, place, shown[place]) {
+    for position in 0..shown.len() {
+        if !finds(range, input, position, shown[position]) {
             return false;
         }
     }
@@ -49,95 +49,97 @@ fn follows<L: Ledger>(
     Ok(opened && followed && shows(&range, &change.before, shown.0) && range.bounds() == bounds)
 }
 
-// Each case: bounds, a change of the list, what is told of it, and what is shown before and behind it.
+/// Bounds, a change of the list, what is told of it, and what is shown before and after it.
+const FOLLOWED: [(Bounds, &[Row], &[Told], &[i64], &[i64]); 9] = [
+    (
+        Bounds::Tail(2, 0),
+        &[Row::Keep(1), Row::Keep(2), Row::Keep(3), Row::Insert(4)],
+        &[Told::Delete(2), Told::Keep(1), Told::Insert(4)],
+        &[2, 3],
+        &[3, 4],
+    ),
+    (
+        Bounds::Head(1, 3),
+        &[
+            Row::Delete(1),
+            Row::Insert(9),
+            Row::Insert(8),
+            Row::Keep(2),
+            Row::Update(3, 5),
+            Row::Keep(4),
+        ],
+        &[Told::Insert(8), Told::Keep(1), Told::Delete(3)],
+        &[2, 3],
+        &[8, 2],
+    ),
+    (
+        Bounds::Head(1, 3),
+        &[
+            Row::Insert(7),
+            Row::Update(1, 6),
+            Row::Keep(2),
+            Row::Keep(3),
+        ],
+        &[Told::Insert(6), Told::Keep(1), Told::Delete(3)],
+        &[2, 3],
+        &[6, 2],
+    ),
+    (
+        Bounds::Middle(1, 1),
+        &[
+            Row::Keep(1),
+            Row::Update(2, 8),
+            Row::Delete(3),
+            Row::Insert(9),
+            Row::Keep(4),
+        ],
+        &[Told::Update(2, 8), Told::Delete(3), Told::Insert(9)],
+        &[2, 3],
+        &[8, 9],
+    ),
+    (
+        Bounds::Middle(2, 2),
+        &[
+            Row::Insert(8),
+            Row::Insert(9),
+            Row::Keep(1),
+            Row::Keep(2),
+            Row::Keep(3),
+            Row::Keep(4),
+            Row::Keep(5),
+            Row::Keep(6),
+        ],
+        &[Told::Insert(1), Told::Insert(2), Told::Keep(2)],
+        &[3, 4],
+        &[1, 2, 3, 4],
+    ),
+    (
+        Bounds::Tail(2, 0),
+        &[Row::Delete(1), Row::Delete(2), Row::Delete(3)],
+        &[Told::Delete(2), Told::Delete(3)],
+        &[2, 3],
+        &[],
+    ),
+    (
+        Bounds::Middle(1, 1),
+        &[Row::Insert(1), Row::Insert(2), Row::Insert(3)],
+        &[Told::Insert(2)],
+        &[],
+        &[2],
+    ),
+    (
+        Bounds::Head(2, 1),
+        &[Row::Keep(1), Row::Update(2, 3)],
+        &[],
+        &[],
+        &[],
+    ),
+    (Bounds::Head(0, 5), &[], &[], &[], &[]),
+];
+
 #[test]
 fn changes_of_the_list(rt: HostRuntime) -> Result<(), Fail> {
-    for (bounds, rows, told, before, after) in [
-        (
-            Bounds::Tail(2, 0),
-            [Row::Keep(1), Row::Keep(2), Row::Keep(3), Row::Insert(4)].as_slice(),
-            [Told::Delete(2), Told::Keep(1), Told::Insert(4)].as_slice(),
-            [2, 3].as_slice(),
-            [3, 4].as_slice(),
-        ),
-        (
-            Bounds::Head(1, 3),
-            &[
-                Row::Delete(1),
-                Row::Insert(9),
-                Row::Insert(8),
-                Row::Keep(2),
-                Row::Update(3, 5),
-                Row::Keep(4),
-            ],
-            &[Told::Insert(8), Told::Keep(1), Told::Delete(3)],
-            &[2, 3],
-            &[8, 2],
-        ),
-        (
-            Bounds::Head(1, 3),
-            &[
-                Row::Insert(7),
-                Row::Update(1, 6),
-                Row::Keep(2),
-                Row::Keep(3),
-            ],
-            &[Told::Insert(6), Told::Keep(1), Told::Delete(3)],
-            &[2, 3],
-            &[6, 2],
-        ),
-        (
-            Bounds::Middle(1, 1),
-            &[
-                Row::Keep(1),
-                Row::Update(2, 8),
-                Row::Delete(3),
-                Row::Insert(9),
-                Row::Keep(4),
-            ],
-            &[Told::Update(2, 8), Told::Delete(3), Told::Insert(9)],
-            &[2, 3],
-            &[8, 9],
-        ),
-        (
-            Bounds::Middle(2, 2),
-            &[
-                Row::Insert(8),
-                Row::Insert(9),
-                Row::Keep(1),
-                Row::Keep(2),
-                Row::Keep(3),
-                Row::Keep(4),
-                Row::Keep(5),
-                Row::Keep(6),
-            ],
-            &[Told::Insert(1), Told::Insert(2), Told::Keep(2)],
-            &[3, 4],
-            &[1, 2, 3, 4],
-        ),
-        (
-            Bounds::Tail(2, 0),
-            &[Row::Delete(1), Row::Delete(2), Row::Delete(3)],
-            &[Told::Delete(2), Told::Delete(3)],
-            &[2, 3],
-            &[],
-        ),
-        (
-            Bounds::Middle(1, 1),
-            &[Row::Insert(1), Row::Insert(2), Row::Insert(3)],
-            &[Told::Insert(2)],
-            &[],
-            &[2],
-        ),
-        (
-            Bounds::Head(2, 1),
-            &[Row::Keep(1), Row::Update(2, 3)],
-            &[],
-            &[],
-            &[],
-        ),
-        (Bounds::Head(0, 5), &[], &[], &[], &[]),
-    ] {
+    for (bounds, rows, told, before, after) in FOLLOWED {
         let change = change_of(rt.alloc(), rows)?;
         let right = follows::<Brand>(
             rt.alloc(),
@@ -174,32 +176,34 @@ fn takes_bounds<L: Ledger>(
     Ok(opened && changed && shows(&range, list, shown.0) && range.bounds() == bounds.0)
 }
 
-// Each case: two bounds, a list, what is told of the change from the one to the other, and what both show.
+/// Two bounds, a list, what is told of the change from the one to the other, and what both show.
+const EXCHANGED: [((Bounds, Bounds), &[i64], &[Told], &[i64], &[i64]); 3] = [
+    (
+        (Bounds::Tail(2, 0), Bounds::Head(0, 1)),
+        &[1, 2, 4, 5],
+        &[Told::Delete(4), Told::Delete(5), Told::Insert(1)],
+        &[4, 5],
+        &[1],
+    ),
+    (
+        (Bounds::Head(1, 3), Bounds::Head(2, 4)),
+        &[1, 2, 3, 4],
+        &[Told::Delete(2), Told::Keep(1), Told::Insert(4)],
+        &[2, 3],
+        &[3, 4],
+    ),
+    (
+        (Bounds::Head(0, 9), Bounds::Middle(0, 0)),
+        &[],
+        &[],
+        &[],
+        &[],
+    ),
+];
+
 #[test]
 fn changes_of_the_bounds(rt: HostRuntime) -> Result<(), Fail> {
-    for (bounds, list, told, before, after) in [
-        (
-            (Bounds::Tail(2, 0), Bounds::Head(0, 1)),
-            [1, 2, 4, 5].as_slice(),
-            [Told::Delete(4), Told::Delete(5), Told::Insert(1)].as_slice(),
-            [4, 5].as_slice(),
-            [1].as_slice(),
-        ),
-        (
-            (Bounds::Head(1, 3), Bounds::Head(2, 4)),
-            &[1, 2, 3, 4],
-            &[Told::Delete(2), Told::Keep(1), Told::Insert(4)],
-            &[2, 3],
-            &[3, 4],
-        ),
-        (
-            (Bounds::Head(0, 9), Bounds::Middle(0, 0)),
-            &[],
-            &[],
-            &[],
-            &[],
-        ),
-    ] {
+    for (bounds, list, told, before, after) in EXCHANGED {
         let list = numbers(rt.alloc(), list)?;
         assert!(rt; list.len() < 100);
         let right = takes_bounds::<Brand>(

@@ -49,13 +49,13 @@ module _ {S : Type 0} (m : Sums S) where
           let above = head m nodes top (fork l i w r) addressed top_is s in
           let left = head m nodes here.left l addressed left_is s.1 in
           let right = head m nodes here.right r addressed right_is s.2 in
-          let f : Found i d.tree = record { l = l; w = w; r = r; front = before; inside = inside } in
+          let f : Found i d.tree = record { l = l; w = w; r = r; prefix = before; inside = inside } in
           let entries = entries_are m nodes whole d.tree d.stands in
-          let place_is : first + (node_at m nodes here.left).size ≡ length before + tree_size l = omega (arith, first_is, left.size) in
+          let position_is : first + (node_at m nodes here.left).size ≡ length before + tree_size l = omega (arith, first_is, left.size) in
           let at = slot_get_split (inorder d.tree) (length before + tree_size l) (i, w) (found_at i d.tree f) in
           record {
             forks = record {
-              at = ap (λ es. slice_get (slots_of es) (first + (node_at m nodes here.left).size)) entries ∙ (ap (slice_get (slots_of (inorder d.tree))) place_is ∙ (at ∙ ap Some (sym top_is)));
+              at = ap (λ es. slice_get (slots_of es) (first + (node_at m nodes here.left).size)) entries ∙ (ap (slice_get (slots_of (inorder d.tree))) position_is ∙ (at ∙ ap Some (sym top_is)));
               low = omega arith;
               high = omega (arith, above.size, left.size);
             };
@@ -72,7 +72,7 @@ module _ {S : Type 0} (m : Sums S) where
             size = omega (arith, above.size, left.size, right.size);
             lower_before = omega (arith, above.height, left.height);
             lower_after = omega (arith, above.height, right.height);
-            few = omega (arith, inside_size d.tree (fork l i w r) before inside, d.stands.small, place_is);
+            few = omega (arith, inside_size d.tree (fork l i w r) before inside, d.stands.small, position_is);
           }
 
   -- where the way does not end, the subtree has entries

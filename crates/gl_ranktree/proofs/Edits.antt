@@ -40,39 +40,39 @@ module _ {S : Type 0} where
   length-inorder leaf = refl
   length-inorder (fork l i w r) = omega (arith, length-append (inorder l) ((i, w) ∷ inorder r), length-inorder l, length-inorder r)
 
-  pub hits-insert : (j : ℕ) (xs : List (ℕ × S)) (place : ℕ) (e : ℕ × S) → hits j (insert xs place e) ≡ hits j xs + hit e.0 j
-  hits-insert j xs place e =
-      omega (arith, hits-append j (take place xs) (e ∷ drop place xs), hits-append j (take place xs) (drop place xs), ap (hits j) (take-append-drop place xs))
+  pub hits-insert : (j : ℕ) (xs : List (ℕ × S)) (position : ℕ) (e : ℕ × S) → hits j (insert xs position e) ≡ hits j xs + hit e.0 j
+  hits-insert j xs position e =
+      omega (arith, hits-append j (take position xs) (e ∷ drop position xs), hits-append j (take position xs) (drop position xs), ap (hits j) (take-append-drop position xs))
 
-  pub insert_past : (xs ys : List (ℕ × S)) (x y : ℕ × S) (place k : ℕ) → place ≡ length xs + suc k → insert (xs ++ x ∷ ys) place y ≡ xs ++ x ∷ insert ys k y
-  insert_past xs ys x y place k is =
-      let more : place - length xs ≡ suc k = omega arith in
-      rw (insert-append_right xs (x ∷ ys) (length xs) place y refl (omega arith), more)
+  pub insert_past : (xs ys : List (ℕ × S)) (x y : ℕ × S) (position k : ℕ) → position ≡ length xs + suc k → insert (xs ++ x ∷ ys) position y ≡ xs ++ x ∷ insert ys k y
+  insert_past xs ys x y position k is =
+      let more : position - length xs ≡ suc k = omega arith in
+      rw (insert-append_right xs (x ∷ ys) (length xs) position y refl (omega arith), more)
 
-  pub remove_past : (xs ys : List (ℕ × S)) (x : ℕ × S) (place k : ℕ) → place ≡ length xs + suc k → remove (xs ++ x ∷ ys) place ≡ xs ++ x ∷ remove ys k
-  remove_past xs ys x place k is =
-      let more : place - length xs ≡ suc k = omega arith in
-      rw (remove-append_right xs (x ∷ ys) (length xs) place refl (omega arith), more)
+  pub remove_past : (xs ys : List (ℕ × S)) (x : ℕ × S) (position k : ℕ) → position ≡ length xs + suc k → remove (xs ++ x ∷ ys) position ≡ xs ++ x ∷ remove ys k
+  remove_past xs ys x position k is =
+      let more : position - length xs ≡ suc k = omega arith in
+      rw (remove-append_right xs (x ∷ ys) (length xs) position refl (omega arith), more)
 
-  pub hits-remove-le : (j : ℕ) (xs : List (ℕ × S)) (place : ℕ) → hits j (remove xs place) ≤ hits j xs
+  pub hits-remove-le : (j : ℕ) (xs : List (ℕ × S)) (position : ℕ) → hits j (remove xs position) ≤ hits j xs
   hits-remove-le j [] zero = omega arith
-  hits-remove-le j [] (suc place) = omega arith
+  hits-remove-le j [] (suc position) = omega arith
   hits-remove-le j (x ∷ xs) zero = omega arith
-  hits-remove-le j (x ∷ xs) (suc place) = omega (arith, hits-remove-le j xs place)
+  hits-remove-le j (x ∷ xs) (suc position) = omega (arith, hits-remove-le j xs position)
 
-  pub remove_here : (xs ys : List (ℕ × S)) (x : ℕ × S) (place : ℕ) → place ≡ length xs → remove (xs ++ x ∷ ys) place ≡ xs ++ ys
-  remove_here xs ys x place is =
-      let none : place - length xs ≡ 0 = omega arith in
-      rw (remove-append_right xs (x ∷ ys) (length xs) place refl (omega arith), none)
+  pub remove_here : (xs ys : List (ℕ × S)) (x : ℕ × S) (position : ℕ) → position ≡ length xs → remove (xs ++ x ∷ ys) position ≡ xs ++ ys
+  remove_here xs ys x position is =
+      let none : position - length xs ≡ 0 = omega arith in
+      rw (remove-append_right xs (x ∷ ys) (length xs) position refl (omega arith), none)
 
   -- the slots and the size of a tree whose order is known
-  pub times_of_insert : (j : ℕ) (t u : Tree S) (place : ℕ) (e : ℕ × S) → inorder u ≡ insert (inorder t) place e → times j u ≡ times j t + hit e.0 j
-  times_of_insert j t u place e order =
-      omega (arith, hits-inorder j u, hits-inorder j t, ap (hits j) order, hits-insert j (inorder t) place e)
+  pub times_of_insert : (j : ℕ) (t u : Tree S) (position : ℕ) (e : ℕ × S) → inorder u ≡ insert (inorder t) position e → times j u ≡ times j t + hit e.0 j
+  times_of_insert j t u position e order =
+      omega (arith, hits-inorder j u, hits-inorder j t, ap (hits j) order, hits-insert j (inorder t) position e)
 
-  pub size_of_insert : (t u : Tree S) (place : ℕ) (e : ℕ × S) → place ≤ tree_size t → inorder u ≡ insert (inorder t) place e → tree_size u ≡ tree_size t + 1
-  size_of_insert t u place e within order =
-      omega (arith, length-inorder u, length-inorder t, ap length order, length-insert (inorder t) place e (omega (arith, length-inorder t)))
+  pub size_of_insert : (t u : Tree S) (position : ℕ) (e : ℕ × S) → position ≤ tree_size t → inorder u ≡ insert (inorder t) position e → tree_size u ≡ tree_size t + 1
+  size_of_insert t u position e within order =
+      omega (arith, length-inorder u, length-inorder t, ap length order, length-insert (inorder t) position e (omega (arith, length-inorder t)))
 
   pub times_between : (j : ℕ) (t a b : Tree S) (i : ℕ) (w : S) → inorder t ≡ inorder a ++ (i, w) ∷ inorder b → times j t ≡ times j a + hit i j + times j b
   times_between j t a b i w order =
@@ -84,12 +84,12 @@ module _ {S : Type 0} where
   pub size_of_first : (t u : Tree S) (i : ℕ) (w : S) → inorder t ≡ (i, w) ∷ inorder u → tree_size t ≡ tree_size u + 1
   size_of_first t u i w order = omega (arith, length-inorder t, length-inorder u, ap length order)
 
-  pub times_of_remove : (j : ℕ) (t u : Tree S) (place : ℕ) → inorder u ≡ remove (inorder t) place → times j u ≤ times j t
-  times_of_remove j t u place order = omega (arith, hits-inorder j u, hits-inorder j t, ap (hits j) order, hits-remove-le j (inorder t) place)
+  pub times_of_remove : (j : ℕ) (t u : Tree S) (position : ℕ) → inorder u ≡ remove (inorder t) position → times j u ≤ times j t
+  times_of_remove j t u position order = omega (arith, hits-inorder j u, hits-inorder j t, ap (hits j) order, hits-remove-le j (inorder t) position)
 
-  pub size_of_remove : (t u : Tree S) (place : ℕ) → place < tree_size t → inorder u ≡ remove (inorder t) place → tree_size u + 1 ≡ tree_size t
-  size_of_remove t u place within order =
-      omega (arith, length-inorder u, length-inorder t, ap length order, length-remove (inorder t) place (omega (arith, length-inorder t)))
+  pub size_of_remove : (t u : Tree S) (position : ℕ) → position < tree_size t → inorder u ≡ remove (inorder t) position → tree_size u + 1 ≡ tree_size t
+  size_of_remove t u position within order =
+      omega (arith, length-inorder u, length-inorder t, ap length order, length-remove (inorder t) position (omega (arith, length-inorder t)))
 
 module _ {S : Type 0} (m : Sums S) where
   -- a root in no slot is that of the empty tree
@@ -101,11 +101,11 @@ module _ {S : Type 0} (m : Sums S) where
   filled_from_slot top leaf is some = absurd (some is)
   filled_from_slot top (fork l i w r) is some = omega arith
 
-  pub insert_leaf : (old new : List (Node S)) (top place slot : ℕ) (t : Tree S) → CanInsert m old top place slot t → top ≡ absent → Becomes m old new slot (fork leaf slot (node_at m old slot).own leaf) → Inserts m old new slot place slot t
-  insert_leaf old new top place slot leaf can none becomes =
-      let first : place ≡ 0 = omega (arith, can.in_range) in
+  pub insert_leaf : (old new : List (Node S)) (top position slot : ℕ) (t : Tree S) → CanInsert m old top position slot t → top ≡ absent → Becomes m old new slot (fork leaf slot (node_at m old slot).own leaf) → Inserts m old new slot position slot t
+  insert_leaf old new top position slot leaf can none becomes =
+      let first : position ≡ 0 = omega (arith, can.in_range) in
       record { tree = _; becomes = becomes; order = rw first; height = (omega arith, omega arith) }
-  insert_leaf old new top place slot (fork l i w r) can none becomes =
+  insert_leaf old new top position slot (fork l i w r) can none becomes =
       absurd (omega (arith, can.stands.0.within, can.addressed, can.top_is))
 
   -- what is known below the root of a tree that isn't empty
@@ -199,8 +199,8 @@ module _ {S : Type 0} (m : Sums S) where
       }
 
   -- insert: what each step needs and leaves
-  pub insert_left_can : (old : List (Node S)) (top place slot : ℕ) (t : Tree S) (here : Node S) → CanInsert m old top place slot t → Below old top t here → place ≤ tree_size (left_of t) → CanInsert m old here.left place slot (left_of t)
-  insert_left_can old top place slot t here can b within =
+  pub insert_left_can : (old : List (Node S)) (top position slot : ℕ) (t : Tree S) (here : Node S) → CanInsert m old top position slot t → Below old top t here → position ≤ tree_size (left_of t) → CanInsert m old here.left position slot (left_of t)
+  insert_left_can old top position slot t here can b within =
       record {
         top_is = b.left_is;
         stands = b.left_stands;
@@ -211,28 +211,28 @@ module _ {S : Type 0} (m : Sums S) where
         in_range = within;
       }
 
-  pub insert_left_sides : (old n1 : List (Node S)) (top left place slot : ℕ) (t : Tree S) (here : Node S) → CanInsert m old top place slot t → Below old top t here → place ≤ tree_size (left_of t) → (ins : Inserts m old n1 left place slot (left_of t)) → Sides m n1 left top here.right ins.tree (right_of t) × DifferByAtMost 2 ins.tree (right_of t)
-  insert_left_sides old n1 top left place slot t here can b within ins = (
+  pub insert_left_sides : (old n1 : List (Node S)) (top left position slot : ℕ) (t : Tree S) (here : Node S) → CanInsert m old top position slot t → Below old top t here → position ≤ tree_size (left_of t) → (ins : Inserts m old n1 left position slot (left_of t)) → Sides m n1 left top here.right ins.tree (right_of t) × DifferByAtMost 2 ins.tree (right_of t)
+  insert_left_sides old n1 top left position slot t here can b within ins = (
     over_left old n1 top left t ins.tree here b ins.becomes
-        (λ j. omega (arith, can.apart j, b.apart j, times_of_insert j (left_of t) ins.tree place _ ins.order))
+        (λ j. omega (arith, can.apart j, b.apart j, times_of_insert j (left_of t) ins.tree position _ ins.order))
         can.addressed
-        (omega (arith, can.small, b.size, size_of_insert (left_of t) ins.tree place _ within ins.order)),
+        (omega (arith, can.small, b.size, size_of_insert (left_of t) ins.tree position _ within ins.order)),
     (omega (arith, b.at.balanced, ins.height), omega (arith, b.at.balanced, ins.height)),
   )
 
-  pub insert_left_done : (old n1 new : List (Node S)) (top left place slot result : ℕ) (t : Tree S) (here : Node S) → CanInsert m old top place slot t → Below old top t here → place ≤ tree_size (left_of t) → (ins : Inserts m old n1 left place slot (left_of t)) → Joins m n1 new result top ins.tree (right_of t) → Inserts m old new result place slot t
-  insert_left_done old n1 new top left place slot result t here can b within ins jn =
-      let joined = joined_left old n1 new top left result t ins.tree here b ins.becomes (λ j. omega (arith, can.apart j, b.apart j, times_of_insert j (left_of t) ins.tree place _ ins.order)) jn in
+  pub insert_left_done : (old n1 new : List (Node S)) (top left position slot result : ℕ) (t : Tree S) (here : Node S) → CanInsert m old top position slot t → Below old top t here → position ≤ tree_size (left_of t) → (ins : Inserts m old n1 left position slot (left_of t)) → Joins m n1 new result top ins.tree (right_of t) → Inserts m old new result position slot t
+  insert_left_done old n1 new top left position slot result t here can b within ins jn =
+      let joined = joined_left old n1 new top left result t ins.tree here b ins.becomes (λ j. omega (arith, can.apart j, b.apart j, times_of_insert j (left_of t) ins.tree position _ ins.order)) jn in
       let h = grown (tree_height (left_of t)) (tree_height (right_of t)) (tree_height ins.tree) (tree_height jn.tree) b.at.balanced.0 b.at.balanced.1 ins.height.0 ins.height.1 jn.settled.low jn.settled.high jn.settled.level in
       record {
         tree = jn.tree;
         becomes = joined.becomes;
-        order = joined.order ∙ (ap (λ xs. xs ++ (top, b.w) ∷ inorder (right_of t)) ins.order ∙ (sym (insert-append_left (inorder (left_of t)) ((top, b.w) ∷ inorder (right_of t)) place (slot, (node_at m old slot).own) (omega (arith, within, length-inorder (left_of t)))) ∙ ap (λ xs. insert xs place (slot, (node_at m old slot).own)) (sym b.order)));
+        order = joined.order ∙ (ap (λ xs. xs ++ (top, b.w) ∷ inorder (right_of t)) ins.order ∙ (sym (insert-append_left (inorder (left_of t)) ((top, b.w) ∷ inorder (right_of t)) position (slot, (node_at m old slot).own) (omega (arith, within, length-inorder (left_of t)))) ∙ ap (λ xs. insert xs position (slot, (node_at m old slot).own)) (sym b.order)));
         height = (omega (arith, h, b.height), omega (arith, h, b.height));
       }
 
-  pub insert_right_can : (old : List (Node S)) (top place k slot : ℕ) (t : Tree S) (here : Node S) → CanInsert m old top place slot t → Below old top t here → place ≡ tree_size (left_of t) + suc k → CanInsert m old here.right k slot (right_of t)
-  insert_right_can old top place k slot t here can b is =
+  pub insert_right_can : (old : List (Node S)) (top position k slot : ℕ) (t : Tree S) (here : Node S) → CanInsert m old top position slot t → Below old top t here → position ≡ tree_size (left_of t) + suc k → CanInsert m old here.right k slot (right_of t)
+  insert_right_can old top position k slot t here can b is =
       record {
         top_is = b.right_is;
         stands = b.right_stands;
@@ -243,8 +243,8 @@ module _ {S : Type 0} (m : Sums S) where
         in_range = omega (arith, can.in_range, b.size, is);
       }
 
-  pub insert_right_sides : (old n1 : List (Node S)) (top right place k slot : ℕ) (t : Tree S) (here : Node S) → CanInsert m old top place slot t → Below old top t here → place ≡ tree_size (left_of t) + suc k → (ins : Inserts m old n1 right k slot (right_of t)) → Sides m n1 here.left top right (left_of t) ins.tree × DifferByAtMost 2 (left_of t) ins.tree
-  insert_right_sides old n1 top right place k slot t here can b is ins = (
+  pub insert_right_sides : (old n1 : List (Node S)) (top right position k slot : ℕ) (t : Tree S) (here : Node S) → CanInsert m old top position slot t → Below old top t here → position ≡ tree_size (left_of t) + suc k → (ins : Inserts m old n1 right k slot (right_of t)) → Sides m n1 here.left top right (left_of t) ins.tree × DifferByAtMost 2 (left_of t) ins.tree
+  insert_right_sides old n1 top right position k slot t here can b is ins = (
     over_right old n1 top right t ins.tree here b ins.becomes
         (λ j. omega (arith, can.apart j, b.apart j, times_of_insert j (right_of t) ins.tree k _ ins.order))
         can.addressed
@@ -252,14 +252,14 @@ module _ {S : Type 0} (m : Sums S) where
     (omega (arith, b.at.balanced, ins.height), omega (arith, b.at.balanced, ins.height)),
   )
 
-  pub insert_right_done : (old n1 new : List (Node S)) (top right place k slot result : ℕ) (t : Tree S) (here : Node S) → CanInsert m old top place slot t → Below old top t here → place ≡ tree_size (left_of t) + suc k → (ins : Inserts m old n1 right k slot (right_of t)) → Joins m n1 new result top (left_of t) ins.tree → Inserts m old new result place slot t
-  insert_right_done old n1 new top right place k slot result t here can b is ins jn =
+  pub insert_right_done : (old n1 new : List (Node S)) (top right position k slot result : ℕ) (t : Tree S) (here : Node S) → CanInsert m old top position slot t → Below old top t here → position ≡ tree_size (left_of t) + suc k → (ins : Inserts m old n1 right k slot (right_of t)) → Joins m n1 new result top (left_of t) ins.tree → Inserts m old new result position slot t
+  insert_right_done old n1 new top right position k slot result t here can b is ins jn =
       let joined = joined_right old n1 new top right result t ins.tree here b ins.becomes (λ j. omega (arith, can.apart j, b.apart j, times_of_insert j (right_of t) ins.tree k _ ins.order)) jn in
       let h = grown (tree_height (right_of t)) (tree_height (left_of t)) (tree_height ins.tree) (tree_height jn.tree) b.at.balanced.1 b.at.balanced.0 ins.height.0 ins.height.1 (omega (arith, jn.settled.low)) (omega (arith, jn.settled.high)) (λ near. omega (arith, jn.settled.level (near.1, near.0))) in
       record {
         tree = jn.tree;
         becomes = joined.becomes;
-        order = joined.order ∙ (ap (λ xs. inorder (left_of t) ++ (top, b.w) ∷ xs) ins.order ∙ (sym (insert_past (inorder (left_of t)) (inorder (right_of t)) (top, b.w) (slot, (node_at m old slot).own) place k (omega (arith, is, length-inorder (left_of t)))) ∙ ap (λ xs. insert xs place (slot, (node_at m old slot).own)) (sym b.order)));
+        order = joined.order ∙ (ap (λ xs. inorder (left_of t) ++ (top, b.w) ∷ xs) ins.order ∙ (sym (insert_past (inorder (left_of t)) (inorder (right_of t)) (top, b.w) (slot, (node_at m old slot).own) position k (omega (arith, is, length-inorder (left_of t)))) ∙ ap (λ xs. insert xs position (slot, (node_at m old slot).own)) (sym b.order)));
         height = (omega (arith, h, b.height), omega (arith, h, b.height));
       }
 

@@ -12,17 +12,17 @@ use Rattle.gl_ranktree.proofs.Removals.{within_from_times}
 use Rattle.gl_ranktree.proofs.Edits.{length-inorder, Below}
 
 module _ {S : Type 0} where
-  pub splits_left : (xs ys : List (ℕ × S)) (place : ℕ) (e : ℕ × S) → SplitsAt xs place e → SplitsAt (xs ++ ys) place e
-  splits_left xs ys place e s =
-      record { front = s.front; back = s.back ++ ys; is = ap (λ zs. zs ++ ys) s.is ∙ append_assoc s.front (e ∷ s.back) ys; len = s.len }
+  pub splits_left : (xs ys : List (ℕ × S)) (position : ℕ) (e : ℕ × S) → SplitsAt xs position e → SplitsAt (xs ++ ys) position e
+  splits_left xs ys position e s =
+      record { prefix = s.prefix; back = s.back ++ ys; is = ap (λ zs. zs ++ ys) s.is ∙ append_assoc s.prefix (e ∷ s.back) ys; len = s.len }
 
-  pub splits_right : (xs ys : List (ℕ × S)) (x : ℕ × S) (place k : ℕ) (e : ℕ × S) → place ≡ length xs + suc k → SplitsAt ys k e → SplitsAt (xs ++ x ∷ ys) place e
-  splits_right xs ys x place k e is s =
+  pub splits_right : (xs ys : List (ℕ × S)) (x : ℕ × S) (position k : ℕ) (e : ℕ × S) → position ≡ length xs + suc k → SplitsAt ys k e → SplitsAt (xs ++ x ∷ ys) position e
+  splits_right xs ys x position k e is s =
       record {
-        front = xs ++ x ∷ s.front;
+        prefix = xs ++ x ∷ s.prefix;
         back = s.back;
-        is = ap (λ zs. xs ++ x ∷ zs) s.is ∙ sym (append_assoc xs (x ∷ s.front) (e ∷ s.back));
-        len = omega (arith, length-append xs (x ∷ s.front), s.len, is);
+        is = ap (λ zs. xs ++ x ∷ zs) s.is ∙ sym (append_assoc xs (x ∷ s.prefix) (e ∷ s.back));
+        len = omega (arith, length-append xs (x ∷ s.prefix), s.len, is);
       }
 
   pub inside_times : (t u : Tree S) (before : List (ℕ × S)) → Inside t u before → (j : ℕ) → times j u ≤ times j t
@@ -41,7 +41,7 @@ module _ {S : Type 0} where
   inside_size t u before (on_right {l = l} {r = r} {i = i} {w = w} {before = b} h) =
       omega (arith, inside_size t (fork l i w r) b h, length-append b (inorder l ++ (i, w) ∷ []), length-append (inorder l) ((i, w) ∷ []), length-inorder l)
 
-  -- what stands behind the inner tree
+  -- what stands after the inner tree
   pub inside_order : (t u : Tree S) (before : List (ℕ × S)) → Inside t u before → (after : List (ℕ × S)) × (inorder t ≡ before ++ (inorder u ++ after))
   inside_order t u before whole = ([], sym (append-nil (inorder t)))
   inside_order t u before (on_left {l = l} {r = r} {i = i} {w = w} {before = b} h) =
@@ -57,18 +57,18 @@ module _ {S : Type 0} (m : Sums S) where
   inside_stands nodes t u before (on_left {l = l} {r = r} {i = i} {w = w} {before = b} h) stands = (inside_stands nodes t (fork l i w r) b h stands).1
   inside_stands nodes t u before (on_right {l = l} {r = r} {i = i} {w = w} {before = b} h) stands = (inside_stands nodes t (fork l i w r) b h stands).2
 
-  pub entry_left : (nodes : List (Node S)) (top place slot : ℕ) (t : Tree S) (here : Node S) → Below m nodes top t here → IsEntryAt m nodes (left_of t) place slot → IsEntryAt m nodes t place slot
-  entry_left nodes top place slot t here b e =
-      rw b.order (splits_left (inorder (left_of t)) ((top, b.w) ∷ inorder (right_of t)) place (slot, (node_at m nodes slot).own) e)
+  pub entry_left : (nodes : List (Node S)) (top position slot : ℕ) (t : Tree S) (here : Node S) → Below m nodes top t here → IsEntryAt m nodes (left_of t) position slot → IsEntryAt m nodes t position slot
+  entry_left nodes top position slot t here b e =
+      rw b.order (splits_left (inorder (left_of t)) ((top, b.w) ∷ inorder (right_of t)) position (slot, (node_at m nodes slot).own) e)
 
-  pub entry_right : (nodes : List (Node S)) (top place k slot : ℕ) (t : Tree S) (here : Node S) → Below m nodes top t here → place ≡ tree_size (left_of t) + suc k → IsEntryAt m nodes (right_of t) k slot → IsEntryAt m nodes t place slot
-  entry_right nodes top place k slot t here b is e =
-      rw b.order (splits_right (inorder (left_of t)) (inorder (right_of t)) (top, b.w) place k (slot, (node_at m nodes slot).own) (omega (arith, is, length-inorder (left_of t))) e)
+  pub entry_right : (nodes : List (Node S)) (top position k slot : ℕ) (t : Tree S) (here : Node S) → Below m nodes top t here → position ≡ tree_size (left_of t) + suc k → IsEntryAt m nodes (right_of t) k slot → IsEntryAt m nodes t position slot
+  entry_right nodes top position k slot t here b is e =
+      rw b.order (splits_right (inorder (left_of t)) (inorder (right_of t)) (top, b.w) position k (slot, (node_at m nodes slot).own) (omega (arith, is, length-inorder (left_of t))) e)
 
-  pub entry_here : (nodes : List (Node S)) (top place : ℕ) (t : Tree S) (here : Node S) → Below m nodes top t here → place ≡ tree_size (left_of t) → IsEntryAt m nodes t place top
-  entry_here nodes top place t here b is =
+  pub entry_here : (nodes : List (Node S)) (top position : ℕ) (t : Tree S) (here : Node S) → Below m nodes top t here → position ≡ tree_size (left_of t) → IsEntryAt m nodes t position top
+  entry_here nodes top position t here b is =
       record {
-        front = inorder (left_of t);
+        prefix = inorder (left_of t);
         back = inorder (right_of t);
         is = b.order ∙ ap (λ v. inorder (left_of t) ++ (top, v) ∷ inorder (right_of t)) (sym b.at.own);
         len = omega (arith, is, length-inorder (left_of t));
@@ -91,11 +91,11 @@ module _ {S : Type 0} (m : Sums S) where
   -- one step up from a subtree
   pub record Up (nodes : List (Node S)) (slot parent : ℕ) (t u : Tree S) (before : List (ℕ × S)) : Type 0 where
     pub p : Tree S
-    pub front : List (ℕ × S)
-    pub within : IsWithin m nodes parent t p front
+    pub prefix : List (ℕ × S)
+    pub within : IsWithin m nodes parent t p prefix
     pub higher : (node_at m nodes slot).height < (node_at m nodes parent).height
     pub bounded : (node_at m nodes parent).height < 2 ^ 32
-    pub side : (((node_at m nodes parent).left ≡ slot) × (before ≡ front)) ⊎ (((node_at m nodes parent).left ≢ slot) × (length before ≡ length front + ((node_at m nodes (node_at m nodes parent).left).size + 1)))
+    pub side : (((node_at m nodes parent).left ≡ slot) × (before ≡ prefix)) ⊎ (((node_at m nodes parent).left ≢ slot) × (length before ≡ length prefix + ((node_at m nodes (node_at m nodes parent).left).size + 1)))
 
   height_at : (nodes : List (Node S)) (slot : ℕ) (u : Tree S) → IsAddressed nodes → slot ≡ root u → Realizes m nodes u → (node_at m nodes slot).height ≡ tree_height u
   height_at nodes slot u addressed is stands = (head m nodes slot u addressed is stands).height
@@ -114,7 +114,7 @@ module _ {S : Type 0} (m : Sums S) where
           let here = height_at nodes slot l addressed is s.1 in
           record {
             p = fork l i v r;
-            front = b;
+            prefix = b;
             within = record { stands = w.stands; alone = w.alone; inside = h; slot_is = parent_is; filled = omega arith };
             higher = omega (arith, above, here);
             bounded = omega (arith, above, inside_height t (fork l i v r) b h, height-le-size t, w.stands.small);
@@ -132,7 +132,7 @@ module _ {S : Type 0} (m : Sums S) where
           let slot_small : slot < absent = omega (arith, within_from_times m nodes r slot s.2 (times_at_root slot r is filled), addressed) in
           record {
             p = fork l i v r;
-            front = b;
+            prefix = b;
             within = record { stands = w.stands; alone = w.alone; inside = h; slot_is = parent_is; filled = omega arith };
             higher = omega (arith, above, here);
             bounded = omega (arith, above, inside_height t (fork l i v r) b h, height-le-size t, w.stands.small);
@@ -158,11 +158,11 @@ module _ {S : Type 0} (m : Sums S) where
   -- the same of nodes that were read
   pub record UpRead (nodes : List (Node S)) (slot : ℕ) (n a : Node S) (t : Tree S) (before : List (ℕ × S)) : Type 0 where
     pub p : Tree S
-    pub front : List (ℕ × S)
-    pub within : IsWithin m nodes n.parent t p front
+    pub prefix : List (ℕ × S)
+    pub within : IsWithin m nodes n.parent t p prefix
     pub nearer : 4294967296 - (node_at m nodes n.parent).height < 4294967296 - (node_at m nodes slot).height
-    pub if_left : a.left ≡ slot → length before ≡ length front
-    pub if_right : a.left ≢ slot → length before ≡ length front + ((node_at m nodes a.left).size + 1)
+    pub if_left : a.left ≡ slot → length before ≡ length prefix
+    pub if_right : a.left ≢ slot → length before ≡ length prefix + ((node_at m nodes a.left).size + 1)
 
   pub up_read : (nodes : List (Node S)) (slot : ℕ) (t u : Tree S) (before : List (ℕ × S)) (n a : Node S) → IsWithin m nodes slot t u before → n ≡ node_at m nodes slot → n.parent ≢ absent → a ≡ node_at m nodes n.parent → UpRead nodes slot n a t before
   up_read nodes slot t u before n a w read some read_above =
@@ -172,8 +172,8 @@ module _ {S : Type 0} (m : Sums S) where
       let height_is = ap (λ q. (node_at m nodes q).height) parent_is in
       record {
         p = step.p;
-        front = step.front;
-        within = subst (λ q. IsWithin m nodes q t step.p step.front) parent_is step.within;
+        prefix = step.prefix;
+        within = subst (λ q. IsWithin m nodes q t step.p step.prefix) parent_is step.within;
         nearer = omega (arith, step.higher, step.bounded, height_is);
         if_left = λ same.
             elim step.side [
@@ -183,6 +183,6 @@ module _ {S : Type 0} (m : Sums S) where
         if_right = λ other.
             elim step.side [
               | inl left ↦ absurd (other (sym left_is ∙ left.0))
-              | inr right ↦ right.1 ∙ ap (λ q. length step.front + ((node_at m nodes q).size + 1)) left_is
+              | inr right ↦ right.1 ∙ ap (λ q. length step.prefix + ((node_at m nodes q).size + 1)) left_is
             ];
       }

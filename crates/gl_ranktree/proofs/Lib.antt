@@ -7,5 +7,5 @@ pub mod Owns
 pub mod Finds
 pub mod Vacancies
 pub mod Seen
-pub mod Seeking
+pub mod Seeks
 pub mod Descents

@@ -125,28 +125,28 @@ module _ {S : Type 0} (m : Sums S) where
       }
 
   -- remove
-  pub remove_left_sides : (old n1 : List (Node S)) (top left place : ℕ) (t : Tree S) (here : Node S) → Stands m old top t → Below m old top t here → place < tree_size (left_of t) → (rm : Removes m old n1 left place (left_of t)) → Sides m n1 left top here.right rm.tree (right_of t) × DifferByAtMost 2 rm.tree (right_of t)
-  remove_left_sides old n1 top left place t here s b within rm = (
+  pub remove_left_sides : (old n1 : List (Node S)) (top left position : ℕ) (t : Tree S) (here : Node S) → Stands m old top t → Below m old top t here → position < tree_size (left_of t) → (rm : Removes m old n1 left position (left_of t)) → Sides m n1 left top here.right rm.tree (right_of t) × DifferByAtMost 2 rm.tree (right_of t)
+  remove_left_sides old n1 top left position t here s b within rm = (
     over_left m old n1 top left t rm.tree here b rm.becomes
-        (λ j. omega (arith, s.apart j, b.apart j, times_of_remove j (left_of t) rm.tree place rm.order))
+        (λ j. omega (arith, s.apart j, b.apart j, times_of_remove j (left_of t) rm.tree position rm.order))
         s.addressed
-        (omega (arith, s.small, b.size, size_of_remove (left_of t) rm.tree place within rm.order)),
+        (omega (arith, s.small, b.size, size_of_remove (left_of t) rm.tree position within rm.order)),
     (omega (arith, b.at.balanced, rm.height), omega (arith, b.at.balanced, rm.height)),
   )
 
-  pub remove_left_done : (old n1 new : List (Node S)) (top left place result : ℕ) (t : Tree S) (here : Node S) → Stands m old top t → Below m old top t here → place < tree_size (left_of t) → (rm : Removes m old n1 left place (left_of t)) → Joins m n1 new result top rm.tree (right_of t) → Removes m old new result place t
-  remove_left_done old n1 new top left place result t here s b within rm jn =
-      let joined = joined_left m old n1 new top left result t rm.tree here b rm.becomes (λ j. omega (arith, s.apart j, b.apart j, times_of_remove j (left_of t) rm.tree place rm.order)) jn in
+  pub remove_left_done : (old n1 new : List (Node S)) (top left position result : ℕ) (t : Tree S) (here : Node S) → Stands m old top t → Below m old top t here → position < tree_size (left_of t) → (rm : Removes m old n1 left position (left_of t)) → Joins m n1 new result top rm.tree (right_of t) → Removes m old new result position t
+  remove_left_done old n1 new top left position result t here s b within rm jn =
+      let joined = joined_left m old n1 new top left result t rm.tree here b rm.becomes (λ j. omega (arith, s.apart j, b.apart j, times_of_remove j (left_of t) rm.tree position rm.order)) jn in
       let h = shrunk (tree_height (left_of t)) (tree_height (right_of t)) (tree_height rm.tree) (tree_height jn.tree) b.at.balanced.0 b.at.balanced.1 rm.height.0 rm.height.1 jn.settled.low jn.settled.high jn.settled.level in
       record {
         tree = jn.tree;
         becomes = joined.becomes;
-        order = joined.order ∙ (ap (λ xs. xs ++ (top, b.w) ∷ inorder (right_of t)) rm.order ∙ (sym (remove-append_left (inorder (left_of t)) ((top, b.w) ∷ inorder (right_of t)) place (omega (arith, within, length-inorder (left_of t)))) ∙ ap (λ xs. remove xs place) (sym b.order)));
+        order = joined.order ∙ (ap (λ xs. xs ++ (top, b.w) ∷ inorder (right_of t)) rm.order ∙ (sym (remove-append_left (inorder (left_of t)) ((top, b.w) ∷ inorder (right_of t)) position (omega (arith, within, length-inorder (left_of t)))) ∙ ap (λ xs. remove xs position) (sym b.order)));
         height = (omega (arith, h, b.height), omega (arith, h, b.height));
       }
 
-  pub remove_right_sides : (old n1 : List (Node S)) (top right place k : ℕ) (t : Tree S) (here : Node S) → Stands m old top t → Below m old top t here → place ≡ tree_size (left_of t) + suc k → place < tree_size t → (rm : Removes m old n1 right k (right_of t)) → Sides m n1 here.left top right (left_of t) rm.tree × DifferByAtMost 2 (left_of t) rm.tree
-  remove_right_sides old n1 top right place k t here s b is within rm = (
+  pub remove_right_sides : (old n1 : List (Node S)) (top right position k : ℕ) (t : Tree S) (here : Node S) → Stands m old top t → Below m old top t here → position ≡ tree_size (left_of t) + suc k → position < tree_size t → (rm : Removes m old n1 right k (right_of t)) → Sides m n1 here.left top right (left_of t) rm.tree × DifferByAtMost 2 (left_of t) rm.tree
+  remove_right_sides old n1 top right position k t here s b is within rm = (
     over_right m old n1 top right t rm.tree here b rm.becomes
         (λ j. omega (arith, s.apart j, b.apart j, times_of_remove j (right_of t) rm.tree k rm.order))
         s.addressed
@@ -154,14 +154,14 @@ module _ {S : Type 0} (m : Sums S) where
     (omega (arith, b.at.balanced, rm.height), omega (arith, b.at.balanced, rm.height)),
   )
 
-  pub remove_right_done : (old n1 new : List (Node S)) (top right place k result : ℕ) (t : Tree S) (here : Node S) → Stands m old top t → Below m old top t here → place ≡ tree_size (left_of t) + suc k → (rm : Removes m old n1 right k (right_of t)) → Joins m n1 new result top (left_of t) rm.tree → Removes m old new result place t
-  remove_right_done old n1 new top right place k result t here s b is rm jn =
+  pub remove_right_done : (old n1 new : List (Node S)) (top right position k result : ℕ) (t : Tree S) (here : Node S) → Stands m old top t → Below m old top t here → position ≡ tree_size (left_of t) + suc k → (rm : Removes m old n1 right k (right_of t)) → Joins m n1 new result top (left_of t) rm.tree → Removes m old new result position t
+  remove_right_done old n1 new top right position k result t here s b is rm jn =
       let joined = joined_right m old n1 new top right result t rm.tree here b rm.becomes (λ j. omega (arith, s.apart j, b.apart j, times_of_remove j (right_of t) rm.tree k rm.order)) jn in
       let h = shrunk (tree_height (right_of t)) (tree_height (left_of t)) (tree_height rm.tree) (tree_height jn.tree) b.at.balanced.1 b.at.balanced.0 rm.height.0 rm.height.1 (omega (arith, jn.settled.low)) (omega (arith, jn.settled.high)) (λ near. omega (arith, jn.settled.level (near.1, near.0))) in
       record {
         tree = jn.tree;
         becomes = joined.becomes;
-        order = joined.order ∙ (ap (λ xs. inorder (left_of t) ++ (top, b.w) ∷ xs) rm.order ∙ (sym (remove_past (inorder (left_of t)) (inorder (right_of t)) (top, b.w) place k (omega (arith, is, length-inorder (left_of t)))) ∙ ap (λ xs. remove xs place) (sym b.order)));
+        order = joined.order ∙ (ap (λ xs. inorder (left_of t) ++ (top, b.w) ∷ xs) rm.order ∙ (sym (remove_past (inorder (left_of t)) (inorder (right_of t)) (top, b.w) position k (omega (arith, is, length-inorder (left_of t)))) ∙ ap (λ xs. remove xs position) (sym b.order)));
         height = (omega (arith, h, b.height), omega (arith, h, b.height));
       }
 
@@ -178,11 +178,11 @@ module _ {S : Type 0} (m : Sums S) where
         near = b.at.balanced;
       }
 
-  pub remove_here_done : (old new : List (Node S)) (top place result : ℕ) (t : Tree S) (here : Node S) → Below m old top t here → place ≡ tree_size (left_of t) → Merges m old new result (left_of t) (right_of t) → Removes m old new result place t
-  remove_here_done old new top place result t here b is mg =
+  pub remove_here_done : (old new : List (Node S)) (top position result : ℕ) (t : Tree S) (here : Node S) → Below m old top t here → position ≡ tree_size (left_of t) → Merges m old new result (left_of t) (right_of t) → Removes m old new result position t
+  remove_here_done old new top position result t here b is mg =
       record {
         tree = mg.tree;
         becomes = mg.becomes;
-        order = mg.order ∙ (sym (remove_here (inorder (left_of t)) (inorder (right_of t)) (top, b.w) place (omega (arith, is, length-inorder (left_of t)))) ∙ ap (λ xs. remove xs place) (sym b.order));
+        order = mg.order ∙ (sym (remove_here (inorder (left_of t)) (inorder (right_of t)) (top, b.w) position (omega (arith, is, length-inorder (left_of t)))) ∙ ap (λ xs. remove xs position) (sym b.order));
         height = (omega (arith, mg.height, b.height), omega (arith, mg.height, b.height));
       }

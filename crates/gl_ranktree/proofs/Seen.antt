@@ -19,19 +19,19 @@ use Rattle.gl_ranktree.proofs.Finds.{inside_order, inside_stands, inside_size}
 use Rattle.gl_ranktree.proofs.Vacancies.{entries_are}
 
 module _ {S : Type 0} where
-  slice_get_at : (front back : List (ℕ × S)) (e : ℕ × S) → slice_get (front ++ e ∷ back) (length front) ≡ Some e
+  slice_get_at : (prefix back : List (ℕ × S)) (e : ℕ × S) → slice_get (prefix ++ e ∷ back) (length prefix) ≡ Some e
   slice_get_at [] back e = refl
-  slice_get_at (x ∷ front) back e = slice_get_at front back e
+  slice_get_at (x ∷ prefix) back e = slice_get_at prefix back e
 
   pub slice_get_split : (xs : List (ℕ × S)) (k : ℕ) (e : ℕ × S) → SplitsAt xs k e → slice_get xs k ≡ Some e
-  slice_get_split xs k e s = ap (λ ys. slice_get ys k) s.is ∙ (ap (λ n. slice_get (s.front ++ e ∷ s.back) n) (sym s.len) ∙ slice_get_at s.front s.back e)
+  slice_get_split xs k e s = ap (λ ys. slice_get ys k) s.is ∙ (ap (λ n. slice_get (s.prefix ++ e ∷ s.back) n) (sym s.len) ∙ slice_get_at s.prefix s.back e)
 
-  slot_get_at : (front back : List (ℕ × S)) (e : ℕ × S) → slice_get (slots_of (front ++ e ∷ back)) (length front) ≡ Some e.0
+  slot_get_at : (prefix back : List (ℕ × S)) (e : ℕ × S) → slice_get (slots_of (prefix ++ e ∷ back)) (length prefix) ≡ Some e.0
   slot_get_at [] back e = refl
-  slot_get_at (x ∷ front) back e = slot_get_at front back e
+  slot_get_at (x ∷ prefix) back e = slot_get_at prefix back e
 
   pub slot_get_split : (xs : List (ℕ × S)) (k : ℕ) (e : ℕ × S) → SplitsAt xs k e → slice_get (slots_of xs) k ≡ Some e.0
-  slot_get_split xs k e s = ap (λ ys. slice_get (slots_of ys) k) s.is ∙ (ap (λ n. slice_get (slots_of (s.front ++ e ∷ s.back)) n) (sym s.len) ∙ slot_get_at s.front s.back e)
+  slot_get_split xs k e s = ap (λ ys. slice_get (slots_of ys) k) s.is ∙ (ap (λ n. slice_get (slots_of (s.prefix ++ e ∷ s.back)) n) (sym s.len) ∙ slot_get_at s.prefix s.back e)
 
   pub hits_from_get : (es : List (ℕ × S)) (slot k : ℕ) → slice_get (slots_of es) k ≡ Some slot → 1 ≤ hits slot es
   hits_from_get [] slot k found = absurd (cc)
@@ -47,30 +47,30 @@ module _ {S : Type 0} where
   hits_from_Contains es slot found = hits_at es slot found.0 found.1 found.2
 
   -- a slot that occurs once has one place
-  pub one_place : (es : List (ℕ × S)) (slot j k : ℕ) → hits slot es ≤ 1 → slice_get (slots_of es) j ≡ Some slot → slice_get (slots_of es) k ≡ Some slot → j ≡ k
-  one_place [] slot j k once at_j at_k = absurd (cc)
-  one_place (e ∷ es) slot zero zero once at_j at_k = refl
-  one_place (e ∷ es) slot zero (suc k) once at_j at_k =
+  pub one_position : (es : List (ℕ × S)) (slot j k : ℕ) → hits slot es ≤ 1 → slice_get (slots_of es) j ≡ Some slot → slice_get (slots_of es) k ≡ Some slot → j ≡ k
+  one_position [] slot j k once at_j at_k = absurd (cc)
+  one_position (e ∷ es) slot zero zero once at_j at_k = refl
+  one_position (e ∷ es) slot zero (suc k) once at_j at_k =
       let same : e.0 ≡ slot = cc in
       absurd (omega (arith, once, hit_same slot, ap (λ i. hit i slot) same, hits_from_get es slot k at_k))
-  one_place (e ∷ es) slot (suc j) zero once at_j at_k =
+  one_position (e ∷ es) slot (suc j) zero once at_j at_k =
       let same : e.0 ≡ slot = cc in
       absurd (omega (arith, once, hit_same slot, ap (λ i. hit i slot) same, hits_from_get es slot j at_j))
-  one_place (e ∷ es) slot (suc j) (suc k) once at_j at_k = ap suc (one_place es slot j k (omega (arith, once)) at_j at_k)
+  one_position (e ∷ es) slot (suc j) (suc k) once at_j at_k = ap suc (one_position es slot j k (omega (arith, once)) at_j at_k)
 
   -- the subtree under a slot of the tree
   pub record Found (slot : ℕ) (t : Tree S) : Type 0 where
     pub l : Tree S
     pub w : S
     pub r : Tree S
-    pub front : List (ℕ × S)
-    pub inside : Inside t (fork l slot w r) front
+    pub prefix : List (ℕ × S)
+    pub inside : Inside t (fork l slot w r) prefix
 
   found_below : (slot : ℕ) (t u : Tree S) (before : List (ℕ × S)) → Inside t u before → 1 ≤ times slot u → Found slot t
   found_below slot t leaf before inside some = absurd (omega (arith, some))
   found_below slot t (fork l i w r) before inside some =
       elim (cases_eq i slot) [
-        | inl same ↦ record { l = l; w = w; r = r; front = before; inside = subst (λ k. Inside t (fork l k w r) before) same inside }
+        | inl same ↦ record { l = l; w = w; r = r; prefix = before; inside = subst (λ k. Inside t (fork l k w r) before) same inside }
         | inr other ↦
             elim (cases_lt 0 (times slot l)) [
               | inl left ↦ found_below slot t l before (on_left inside) left
@@ -82,14 +82,14 @@ module _ {S : Type 0} where
   found slot t some = found_below slot t t [] whole some
 
   -- where that entry stands
-  pub found_at : (slot : ℕ) (t : Tree S) (f : Found slot t) → SplitsAt (inorder t) (length f.front + tree_size f.l) (slot, f.w)
+  pub found_at : (slot : ℕ) (t : Tree S) (f : Found slot t) → SplitsAt (inorder t) (length f.prefix + tree_size f.l) (slot, f.w)
   found_at slot t f =
-      let o = inside_order t (fork f.l slot f.w f.r) f.front f.inside in
+      let o = inside_order t (fork f.l slot f.w f.r) f.prefix f.inside in
       record {
-        front = f.front ++ inorder f.l;
+        prefix = f.prefix ++ inorder f.l;
         back = inorder f.r ++ o.0;
         is = o.1 ∙ simp append_assoc;
-        len = omega (arith, length-append f.front (inorder f.l), length-inorder f.l);
+        len = omega (arith, length-append f.prefix (inorder f.l), length-inorder f.l);
       }
 
 module _ {S : Type 0} where
@@ -115,7 +115,7 @@ module _ {S : Type 0} (m : Sums S) where
         | inr large ↦ omega (arith, shallow digits nodes r stands.2 (omega (arith, whole, large)), near)
       ]
 
-  pub within_from_found : (nodes : List (Node S)) (top vacant slot : ℕ) (t : Tree S) (free : List ℕ) → Ranks m nodes top vacant t free → (f : Found slot t) → IsWithin m nodes slot t (fork f.l slot f.w f.r) f.front
+  pub within_from_found : (nodes : List (Node S)) (top vacant slot : ℕ) (t : Tree S) (free : List ℕ) → Ranks m nodes top vacant t free → (f : Found slot t) → IsWithin m nodes slot t (fork f.l slot f.w f.r) f.prefix
   within_from_found nodes top vacant slot t free r f =
       record {
         stands = record { top_is = refl; stands = r.stands.stands; apart = r.stands.apart; addressed = r.stands.addressed; small = r.stands.small };
@@ -128,7 +128,7 @@ module _ {S : Type 0} (m : Sums S) where
   -- how many entries stand in the left side of the subtree under a slot
   pub left_size : (nodes : List (Node S)) (top vacant slot : ℕ) (t : Tree S) (free : List ℕ) (n x : Node S) → Ranks m nodes top vacant t free → (f : Found slot t) → n ≡ node_at m nodes slot → x ≡ node_at m nodes n.left → x.size ≡ tree_size f.l
   left_size nodes top vacant slot t free n x r f read read_left =
-      let s = inside_stands m nodes t (fork f.l slot f.w f.r) f.front f.inside r.stands.stands in
+      let s = inside_stands m nodes t (fork f.l slot f.w f.r) f.prefix f.inside r.stands.stands in
       let left_is : n.left ≡ root f.l = ap (λ (y : Node S). y.left) read ∙ s.0.left in
       ap (λ (y : Node S). y.size) read_left ∙ (head m nodes n.left f.l r.stands.addressed left_is s.1).size
 
@@ -139,9 +139,9 @@ module _ {S : Type 0} (m : Sums S) where
   -- the place of a slot, by what is read on the way
   pub record PlaceOf (nodes : List (Node S)) (slot : ℕ) (t : Tree S) (entries : List (ℕ × S)) : Type 0 where
     pub u : Tree S
-    pub front : List (ℕ × S)
-    pub within : IsWithin m nodes slot t u front
-    pub is : (n x : Node S) → n ≡ node_at m nodes slot → x ≡ node_at m nodes n.left → (k : ℕ) → k ≡ length front → (k + x.size < 2 ^ 32) × (slice_get (slots_of entries) (k + x.size) ≡ Some slot) × ((j : ℕ) → slice_get (slots_of entries) j ≡ Some slot → j ≡ k + x.size)
+    pub prefix : List (ℕ × S)
+    pub within : IsWithin m nodes slot t u prefix
+    pub is : (n x : Node S) → n ≡ node_at m nodes slot → x ≡ node_at m nodes n.left → (k : ℕ) → k ≡ length prefix → (k + x.size < 2 ^ 32) × (slice_get (slots_of entries) (k + x.size) ≡ Some slot) × ((j : ℕ) → slice_get (slots_of entries) j ≡ Some slot → j ≡ k + x.size)
 
   pub place_of : (nodes : List (Node S)) (top vacant slot : ℕ) (t : Tree S) (free : List ℕ) (entries : List (ℕ × S)) → Ranks m nodes top vacant t free → entries ≡ inorder t → Contains (slots_of entries) slot → PlaceOf nodes slot t entries
   place_of nodes top vacant slot t free entries r seen has =
@@ -150,15 +150,15 @@ module _ {S : Type 0} (m : Sums S) where
       let at = slot_get_split (inorder t) _ _ (found_at slot t f) in
       record {
         u = fork f.l slot f.w f.r;
-        front = f.front;
+        prefix = f.prefix;
         within = within_from_found nodes top vacant slot t free r f;
         is = λ n x read read_left k k_is.
             let left = left_size nodes top vacant slot t free n x r f read read_left in
-            let sum_is : k + x.size ≡ length f.front + tree_size f.l = omega (arith, k_is, left) in
-            let here : slice_get (slots_of entries) (k + x.size) ≡ Some slot = ap (λ q. slice_get (slots_of entries) q) sum_is ∙ (ap (λ xs. slice_get (slots_of xs) (length f.front + tree_size f.l)) seen ∙ at) in (
-              omega (arith, sum_is, inside_size t (fork f.l slot f.w f.r) f.front f.inside, r.stands.small),
+            let sum_is : k + x.size ≡ length f.prefix + tree_size f.l = omega (arith, k_is, left) in
+            let here : slice_get (slots_of entries) (k + x.size) ≡ Some slot = ap (λ q. slice_get (slots_of entries) q) sum_is ∙ (ap (λ xs. slice_get (slots_of xs) (length f.prefix + tree_size f.l)) seen ∙ at) in (
+              omega (arith, sum_is, inside_size t (fork f.l slot f.w f.r) f.prefix f.inside, r.stands.small),
               here,
-              λ j at_j. one_place entries slot j (k + x.size) (omega (arith, ap (hits slot) seen, hits-inorder slot t, r.stands.apart slot)) at_j here,
+              λ j at_j. one_position entries slot j (k + x.size) (omega (arith, ap (hits slot) seen, hits-inorder slot t, r.stands.apart slot)) at_j here,
             );
       }
 

@@ -29,15 +29,15 @@ module _ {S : Type 0} where
   height-le-size (fork l i w r) = omega (arith, height-le-size l, height-le-size r)
 
 -- a tree with an entry is no leaf
-pub filled_from_place : {S : Type 0} (t : Tree S) (place : ℕ) → place < tree_size t → 1 ≤ tree_height t
-filled_from_place leaf place within = absurd (omega (arith, within))
-filled_from_place (fork l i w r) place within = omega arith
+pub filled_from_place : {S : Type 0} (t : Tree S) (position : ℕ) → position < tree_size t → 1 ≤ tree_height t
+filled_from_place leaf position within = absurd (omega (arith, within))
+filled_from_place (fork l i w r) position within = omega arith
 
 -- the sum that two steps of adding give, where the whole fits
 pub sum_up : {S : Type 0} (m : Sums S) → AreSums m → (x w y s t a b : S) → (IsTrue (m.fits a) → x ≡ a) → (IsTrue (m.fits b) → y ≡ b) → (IsTrue (m.fits (m.plus x w)) → s ≡ m.plus x w) → (IsTrue (m.fits (m.plus s y)) → t ≡ m.plus s y) → IsTrue (m.fits (m.plus (m.plus a w) b)) → t ≡ m.plus (m.plus a w) b
 sum_up m laws x w y s t a b x_is y_is s_is t_is whole =
-    let front = laws.fits_left _ _ whole in
-    let ex = x_is (laws.fits_left _ _ front) in
+    let prefix = laws.fits_left _ _ whole in
+    let ex = x_is (laws.fits_left _ _ prefix) in
     let ey = y_is (laws.fits_right _ _ whole) in
-    let es : s ≡ m.plus a w = s_is (rw ex front) ∙ ap (λ v. m.plus v w) ex in
+    let es : s ≡ m.plus a w = s_is (rw ex prefix) ∙ ap (λ v. m.plus v w) ex in
     t_is (rw (es, ey) whole) ∙ (ap (λ v. m.plus v y) es ∙ ap (λ v. m.plus (m.plus a w) v) ey)

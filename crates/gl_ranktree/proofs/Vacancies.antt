@@ -32,15 +32,15 @@ module _ {S : Type 0} where
         | inr other ↦ omega (arith, hit_other slot j other)
       ]
 
-  pub hits-removed : (j : ℕ) (xs : List (ℕ × S)) (place : ℕ) (e : ℕ × S) → SplitsAt xs place e → hits j xs ≡ hits j (remove xs place) + hit e.0 j
-  hits-removed j xs place e s =
+  pub hits-removed : (j : ℕ) (xs : List (ℕ × S)) (position : ℕ) (e : ℕ × S) → SplitsAt xs position e → hits j xs ≡ hits j (remove xs position) + hit e.0 j
+  hits-removed j xs position e s =
       omega (
         arith,
         ap (hits j) s.is,
-        ap (λ ys. hits j (remove ys place)) s.is,
-        ap (hits j) (remove_here s.front s.back e place (sym s.len)),
-        hits-append j s.front (e ∷ s.back),
-        hits-append j s.front s.back,
+        ap (λ ys. hits j (remove ys position)) s.is,
+        ap (hits j) (remove_here s.prefix s.back e position (sym s.len)),
+        hits-append j s.prefix (e ∷ s.back),
+        hits-append j s.prefix s.back,
       )
 
 module _ {S : Type 0} (m : Sums S) where
@@ -70,10 +70,10 @@ module _ {S : Type 0} (m : Sums S) where
         reused = λ _. (refl, is, puts.len);
       }
 
-  pub hung : (old n1 new : List (Node S)) (from top place slot : ℕ) (t : Tree S) → CanInsert m old from place slot t → Inserts m old n1 top place slot t → Reparents m n1 new top absent → Hangs m old new top place slot t
-  hung old n1 new from top place slot t can ins wrote =
+  pub hung : (old n1 new : List (Node S)) (from top position slot : ℕ) (t : Tree S) → CanInsert m old from position slot t → Inserts m old n1 top position slot t → Reparents m n1 new top absent → Hangs m old new top position slot t
+  hung old n1 new from top position slot t can ins wrote =
       let u = ins.tree in
-      let apart : (j : ℕ) → times j u ≤ 1 = λ j. omega (arith, can.apart j, times_of_insert j t u place _ ins.order) in
+      let apart : (j : ℕ) → times j u ≤ 1 = λ j. omega (arith, can.apart j, times_of_insert j t u position _ ins.order) in
       let addressed : IsAddressed n1 = omega (arith, can.addressed, ins.becomes.len) in
       let st = Reparents-stands m n1 new top absent u ins.becomes.top_is wrote apart ins.becomes.stands in
       record {
@@ -112,9 +112,9 @@ module _ {S : Type 0} (m : Sums S) where
       ]
 
   -- the state once a slot was claimed
-  pub record Claimed (old n1 : List (Node S)) (top place slot next : ℕ) (tree : Tree S) : Type 0 where
+  pub record Claimed (old n1 : List (Node S)) (top position slot next : ℕ) (tree : Tree S) : Type 0 where
     pub rest : List ℕ
-    pub can : CanInsert m n1 top place slot tree
+    pub can : CanInsert m n1 top position slot tree
     pub chain : IsChain m n1 next rest
     pub shared : (j : ℕ) → times j tree + hit slot j + listed j rest ≤ 1
     pub counted : tree_size tree + 1 + length rest ≡ length n1
@@ -123,8 +123,8 @@ module _ {S : Type 0} (m : Sums S) where
     pub full : slot ≡ length old → tree_size tree ≡ length old
     pub len : length n1 ≡ max (length old) (slot + 1)
 
-  pub claimed : (old n1 : List (Node S)) (top vacant place capacity slot next : ℕ) (own : S) (tree : Tree S) (free : List ℕ) → CanPutIn m old top vacant place capacity tree free → Claims m old n1 vacant slot next own → Claimed old n1 top place slot next tree
-  claimed old n1 top vacant place capacity slot next own tree [] can cl =
+  pub claimed : (old n1 : List (Node S)) (top vacant position capacity slot next : ℕ) (own : S) (tree : Tree S) (free : List ℕ) → CanPutIn m old top vacant position capacity tree free → Claims m old n1 vacant slot next own → Claimed old n1 top position slot next tree
+  claimed old n1 top vacant position capacity slot next own tree [] can cl =
       let r = can.ranks in
       let f = cl.fresh r.chain in
       let out : times slot tree ≡ 0 = not_there old tree slot r.stands.stands (omega (arith, f.0)) in
@@ -149,7 +149,7 @@ module _ {S : Type 0} (m : Sums S) where
         full = λ _. omega (arith, r.counted);
         len = omega (arith, f.0, f.2);
       }
-  claimed old n1 top vacant place capacity slot next own tree (v ∷ vs) can cl =
+  claimed old n1 top vacant position capacity slot next own tree (v ∷ vs) can cl =
       let r = can.ranks in
       let f = cl.reused (omega (arith, r.chain.0, r.chain.1)) in
       let is : slot ≡ v = f.0 ∙ r.chain.0 in
@@ -178,12 +178,12 @@ module _ {S : Type 0} (m : Sums S) where
         len = omega (arith, is, r.chain.1, f.2);
       }
 
-  pub put_in_done : (old n1 new : List (Node S)) (from top vacant place capacity slot next : ℕ) (own : S) (tree : Tree S) (free : List ℕ) → CanPutIn m old from vacant place capacity tree free → Claims m old n1 vacant slot next own → Hangs m n1 new top place slot tree → PutsIn m old new slot top next place own tree
-  put_in_done old n1 new from top vacant place capacity slot next own tree free can cl hg =
-      let cd = claimed old n1 from vacant place capacity slot next own tree free can cl in
+  pub put_in_done : (old n1 new : List (Node S)) (from top vacant position capacity slot next : ℕ) (own : S) (tree : Tree S) (free : List ℕ) → CanPutIn m old from vacant position capacity tree free → Claims m old n1 vacant slot next own → Hangs m n1 new top position slot tree → PutsIn m old new slot top next position own tree
+  put_in_done old n1 new from top vacant position capacity slot next own tree free can cl hg =
+      let cd = claimed old n1 from vacant position capacity slot next own tree free can cl in
       let u = hg.tree in
-      let count : (j : ℕ) → times j u ≡ times j tree + hit slot j = λ j. times_of_insert j tree u place _ hg.order in
-      let size = size_of_insert tree u place _ can.in_range hg.order in
+      let count : (j : ℕ) → times j u ≡ times j tree + hit slot j = λ j. times_of_insert j tree u position _ hg.order in
+      let size = size_of_insert tree u position _ can.in_range hg.order in
       record {
         tree = u;
         free = cd.rest;
@@ -200,7 +200,7 @@ module _ {S : Type 0} (m : Sums S) where
           shared = λ j. omega (arith, count j, cd.shared j);
           counted = omega (arith, size, cd.counted, hg.becomes.len);
         };
-        order = hg.order ∙ ap (λ v. insert (inorder tree) place (slot, v)) cl.own_is;
+        order = hg.order ∙ ap (λ v. insert (inorder tree) position (slot, v)) cl.own_is;
         fresh = cd.fresh;
         next = cd.next_is;
         full = cd.full;
@@ -208,14 +208,14 @@ module _ {S : Type 0} (m : Sums S) where
       }
 
   -- the slot of an entry is one of the vector
-  pub entry_within : (nodes : List (Node S)) (t : Tree S) (place slot : ℕ) (own : S) → Realizes m nodes t → SplitsAt (inorder t) place (slot, own) → slot < length nodes
-  entry_within nodes t place slot own stands entry =
-      within_from_times m nodes t slot stands (omega (arith, hits-removed slot (inorder t) place (slot, own) entry, hits-inorder slot t, hit_same slot))
+  pub entry_within : (nodes : List (Node S)) (t : Tree S) (position slot : ℕ) (own : S) → Realizes m nodes t → SplitsAt (inorder t) position (slot, own) → slot < length nodes
+  entry_within nodes t position slot own stands entry =
+      within_from_times m nodes t slot stands (omega (arith, hits-removed slot (inorder t) position (slot, own) entry, hits-inorder slot t, hit_same slot))
 
-  pub take_out_done : (old n1 n2 new : List (Node S)) (from top vacant place slot : ℕ) (gone : Node S) (t : Tree S) (free : List ℕ) → Ranks m old from vacant t free → place < tree_size t → SplitsAt (inorder t) place (slot, (node_at m old slot).own) → Removes m old n1 top place t → Reparents m n1 n2 top absent → Puts m n2 new slot (record gone { left = vacant }) → TakesOut m old new slot top place t
-  take_out_done old n1 n2 new from top vacant place slot gone t free r within entry rm wrote puts =
+  pub take_out_done : (old n1 n2 new : List (Node S)) (from top vacant position slot : ℕ) (gone : Node S) (t : Tree S) (free : List ℕ) → Ranks m old from vacant t free → position < tree_size t → SplitsAt (inorder t) position (slot, (node_at m old slot).own) → Removes m old n1 top position t → Reparents m n1 n2 top absent → Puts m n2 new slot (record gone { left = vacant }) → TakesOut m old new slot top position t
+  take_out_done old n1 n2 new from top vacant position slot gone t free r within entry rm wrote puts =
       let u = rm.tree in
-      let count : (j : ℕ) → times j t ≡ times j u + hit slot j = λ j. omega (arith, hits-removed j (inorder t) place _ entry, hits-inorder j t, hits-inorder j u, ap (hits j) rm.order) in
+      let count : (j : ℕ) → times j t ≡ times j u + hit slot j = λ j. omega (arith, hits-removed j (inorder t) position _ entry, hits-inorder j t, hits-inorder j u, ap (hits j) rm.order) in
       let apart : (j : ℕ) → times j u ≤ 1 = λ j. omega (arith, count j, r.stands.apart j) in
       let out : times slot u ≡ 0 = omega (arith, count slot, r.stands.apart slot, hit_same slot) in
       let addressed : IsAddressed n1 = omega (arith, r.stands.addressed, rm.becomes.len) in
@@ -236,23 +236,23 @@ module _ {S : Type 0} (m : Sums S) where
             stands = Realizes-kept m n2 new u puts.len same st.0;
             apart = apart;
             addressed = omega (arith, r.stands.addressed, len);
-            small = omega (arith, r.stands.small, size_of_remove t u place within rm.order);
+            small = omega (arith, r.stands.small, size_of_remove t u position within rm.order);
           };
           alone = IsUnder-kept m n2 new u absent same st.1;
           chain = (refl, omega (arith, slot_within, len), subst (λ q. IsChain m new q free) (sym left_is) (chain_kept old new vacant free (omega (arith, len)) rest r.chain));
           shared = λ j. omega (arith, count j, r.shared j);
-          counted = omega (arith, size_of_remove t u place within rm.order, r.counted, len);
+          counted = omega (arith, size_of_remove t u position within rm.order, r.counted, len);
         };
         entry = entry;
         order = rm.order;
         len = len;
       }
 
-  pub set_in_done : (old n1 new : List (Node S)) (top vacant place : ℕ) (own : S) (t : Tree S) (free : List ℕ) → Ranks m old top vacant t free → SetsOwn m old n1 top place own t → Reparents m n1 new top absent → SetsIn m old new top vacant place own t
-  set_in_done old n1 new top vacant place own t free r so wrote =
+  pub set_in_done : (old n1 new : List (Node S)) (top vacant position : ℕ) (own : S) (t : Tree S) (free : List ℕ) → Ranks m old top vacant t free → SetsOwn m old n1 top position own t → Reparents m n1 new top absent → SetsIn m old new top vacant position own t
+  set_in_done old n1 new top vacant position own t free r so wrote =
       let u = so.tree in
-      let count : (j : ℕ) → times j u ≡ times j t = λ j. times_of_own j t u place own so.order in
-      let size = size_of_own t u place own so.order in
+      let count : (j : ℕ) → times j u ≡ times j t = λ j. times_of_own j t u position own so.order in
+      let size = size_of_own t u position own so.order in
       let addressed : IsAddressed n1 = omega (arith, r.stands.addressed, so.becomes.len) in
       let apart : (j : ℕ) → times j u ≤ 1 = λ j. omega (arith, count j, r.stands.apart j) in
       let st = Reparents-stands m n1 new top absent u so.becomes.top_is wrote apart so.becomes.stands in

@@ -24,7 +24,14 @@ descending_code =
     (List ℕ × (ℕ × (ℕ × (ℕ × ℕ))))
     (coded× (coded_list coded_ℕ) (coded× coded_ℕ (coded× coded_ℕ (coded× coded_ℕ coded_ℕ))))
     (λ d. (d.slots, (d.first, (d.middle, (d.end, d.levels)))))
-    (λ p. record { slots = p.0; first = p.1.0; middle = p.1.1.0; end = p.1.1.1.0; levels = p.1.1.1.1 })
+    (λ p. record {
+      slots = p.0;
+      first = p.1.0;
+      middle = p.1.1.0;
+      end = p.1.1.1.0;
+      levels =
+          p.1.1.1.1;
+    })
     (λ _. refl)
 
 -- the place at which the way forks is one of those that are left, and has this slot

@@ -19,23 +19,23 @@ module _ {S : Type 0} (m : Sums S) where
     pub small : tree_size t < 2 ^ 32
 
   -- a slot outside the tree may be put at a place
-  pub record CanInsert (nodes : List (Node S)) (top place slot : ℕ) (t : Tree S) : Type 0 where
+  pub record CanInsert (nodes : List (Node S)) (top position slot : ℕ) (t : Tree S) : Type 0 where
     pub top_is : top ≡ root t
     pub stands : Realizes m nodes t
     pub apart : (j : ℕ) → times j t + hit slot j ≤ 1
     pub within : slot < length nodes
     pub addressed : IsAddressed nodes
     pub small : tree_size t + 1 < 2 ^ 32
-    pub in_range : place ≤ tree_size t
+    pub in_range : position ≤ tree_size t
 
-  pub record SomeCanInsert (nodes : List (Node S)) (top place slot : ℕ) : Type 0 where
+  pub record SomeCanInsert (nodes : List (Node S)) (top position slot : ℕ) : Type 0 where
     pub tree : Tree S
-    pub can : CanInsert nodes top place slot tree
+    pub can : CanInsert nodes top position slot tree
 
-  pub record Inserts (old new : List (Node S)) (top place slot : ℕ) (t : Tree S) : Type 0 where
+  pub record Inserts (old new : List (Node S)) (top position slot : ℕ) (t : Tree S) : Type 0 where
     pub tree : Tree S
     pub becomes : Becomes m old new top tree
-    pub order : inorder tree ≡ insert (inorder t) place (slot, (node_at m old slot).own)
+    pub order : inorder tree ≡ insert (inorder t) position (slot, (node_at m old slot).own)
     pub height : IsLevelOrOneMore (tree_height t) (tree_height tree)
 
   -- a tree that isn't empty
@@ -74,21 +74,22 @@ module _ {S : Type 0} (m : Sums S) where
     pub height : IsLevelOrOneMore (max (tree_height l) (tree_height r)) (tree_height tree)
 
   -- a tree with an entry at this place
-  pub record SomeWithPlace (nodes : List (Node S)) (top place : ℕ) : Type 0 where
+  pub record SomeWithPlace (nodes : List (Node S)) (top position : ℕ) : Type 0 where
     pub tree : Tree S
     pub stands : Stands nodes top tree
-    pub in_range : place < tree_size tree
+    pub in_range : position < tree_size tree
 
   -- the entry at a place is taken out
-  pub record Removes (old new : List (Node S)) (top place : ℕ) (t : Tree S) : Type 0 where
+  pub record Removes (old new : List (Node S)) (top position : ℕ) (t : Tree S) : Type 0 where
     pub tree : Tree S
     pub becomes : Becomes m old new top tree
-    pub order : inorder tree ≡ remove (inorder t) place
+    pub order : inorder tree ≡ remove (inorder t) position
     pub height : IsLevelOrOneMore (tree_height tree) (tree_height t)
 
   -- the own summary of the entry at a place is another one
-  pub record SetsOwn (old new : List (Node S)) (top place : ℕ) (own : S) (t : Tree S) : Type 0 where
-    pub tree : Tree S
-    pub becomes : Becomes m old new top tree
-    pub order : inorder tree ≡ with_own (inorder t) place own
-    pub height : tree_height tree ≡ tree_height t
+  pub record SetsOwn (old new : List (Node S)) (top position : ℕ) (own : S) (t : Tree S) : Type 0
+    where
+      pub tree : Tree S
+      pub becomes : Becomes m old new top tree
+      pub order : inorder tree ≡ with_own (inorder t) position own
+      pub height : tree_height tree ≡ tree_height t

@@ -8,7 +8,8 @@ use Rattle.gl_ranktree.specs.declared.node.Node.{Node}
 
 module _ {S : Type 0} (m : Sums S) where
   -- a tree with no parent, and one that isn't empty inside it
-  pub record IsWithin (nodes : List (Node S)) (slot : ℕ) (t u : Tree S) (before : List (ℕ × S)) : Type 0 where
+  pub record IsWithin (nodes : List (Node S)) (slot : ℕ) (t u : Tree S)
+      (before : List (ℕ × S)) : Type 0 where
     pub stands : Stands m nodes (root t) t
     pub alone : IsUnder m nodes t 4294967295
     pub inside : Inside t u before
@@ -23,4 +24,4 @@ module _ {S : Type 0} (m : Sums S) where
 
   -- the slot of an entry at a place, with its own summary
   abbrev pub IsEntryAt : List (Node S) → Tree S → ℕ → ℕ → Type 0
-  IsEntryAt nodes t place slot = SplitsAt (inorder t) place (slot, (node_at m nodes slot).own)
+  IsEntryAt nodes t position slot = SplitsAt (inorder t) position (slot, (node_at m nodes slot).own)

@@ -11,7 +11,16 @@ IsAddressed nodes = length nodes < 2 ^ 32
 module _ {S : Type 0} (m : Sums S) where
   -- what is read where there is no node
   abbrev pub blank : Node S
-  blank = record { parent = absent; left = absent; right = absent; size = 0; height = 0; own = m.zero; sum = m.zero }
+  blank = record {
+    parent = absent;
+    left = absent;
+    right = absent;
+    size = 0;
+    height = 0;
+    own =
+        m.zero;
+    sum = m.zero;
+  }
 
   unfoldable pub node_at : List (Node S) → ℕ → Node S
   node_at nodes slot = slice_index_or nodes slot blank
@@ -31,7 +40,8 @@ module _ {S : Type 0} (m : Sums S) where
     pub size : (node_at nodes i).size ≡ tree_size l + tree_size r + 1
     pub height : (node_at nodes i).height ≡ max (tree_height l) (tree_height r) + 1
     pub own : (node_at nodes i).own ≡ w
-    pub sum : IsTrue (m.fits (tree_sum m (fork l i w r))) → (node_at nodes i).sum ≡ tree_sum m (fork l i w r)
+    pub sum : IsTrue (m.fits (tree_sum m (fork l i w r)))
+        → (node_at nodes i).sum ≡ tree_sum m (fork l i w r)
     pub balanced : DifferByAtMost 1 l r
 
   -- the nodes stand for the tree; of its root's parent nothing is said
@@ -84,13 +94,15 @@ module _ {S : Type 0} (m : Sums S) where
     pub len : length new ≡ length old
 
   -- what a node over two trees says
-  pub record IsJoint (nodes : List (Node S)) (slot : ℕ) (l r : Tree S) (node : Node S) : Type 0 where
-    pub left : node.left ≡ root l
-    pub right : node.right ≡ root r
-    pub size : node.size ≡ tree_size l + tree_size r + 1
-    pub height : node.height ≡ max (tree_height l) (tree_height r) + 1
-    pub own : node.own ≡ (node_at nodes slot).own
-    pub sum : IsTrue (m.fits (tree_sum m (fork l slot (node_at nodes slot).own r))) → node.sum ≡ tree_sum m (fork l slot (node_at nodes slot).own r)
+  pub record IsJoint (nodes : List (Node S)) (slot : ℕ) (l r : Tree S) (node : Node S) : Type 0
+    where
+      pub left : node.left ≡ root l
+      pub right : node.right ≡ root r
+      pub size : node.size ≡ tree_size l + tree_size r + 1
+      pub height : node.height ≡ max (tree_height l) (tree_height r) + 1
+      pub own : node.own ≡ (node_at nodes slot).own
+      pub sum : IsTrue (m.fits (tree_sum m (fork l slot (node_at nodes slot).own r)))
+          → node.sum ≡ tree_sum m (fork l slot (node_at nodes slot).own r)
 
   -- two trees and the node between them are joined to one, from left to right as they were
   pub record Joins (old new : List (Node S)) (top slot : ℕ) (l r : Tree S) : Type 0 where

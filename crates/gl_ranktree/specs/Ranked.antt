@@ -32,7 +32,10 @@ module _ {S : Type 0} (m : Sums S) where
   -- the entries below a node, from left to right, no deeper than so many levels
   unfoldable pub walk : ℕ → List (Node S) → ℕ → List (ℕ × S)
   walk zero nodes slot = []
-  walk (suc depth) nodes slot = cond (nat_lt slot (length nodes)) (walk depth nodes (node_at m nodes slot).left ++ (slot, (node_at m nodes slot).own) ∷ walk depth nodes (node_at m nodes slot).right) []
+  walk (suc depth) nodes slot =
+      cond (nat_lt slot (length nodes))
+      (walk depth nodes (node_at m nodes slot).left
+      ++ (slot, (node_at m nodes slot).own) ∷ walk depth nodes (node_at m nodes slot).right) []
 
   -- the entries of the tree under this root
   abbrev pub entries_under : List (Node S) → ℕ → List (ℕ × S)
@@ -41,15 +44,17 @@ module _ {S : Type 0} (m : Sums S) where
   -- the vacant slots, each of which names the next one as its left child
   abbrev pub IsChain : List (Node S) → ℕ → List ℕ → Type 0
   IsChain nodes start [] = start ≡ absent
-  IsChain nodes start (v ∷ vs) = (start ≡ v) × (v < length nodes) × IsChain nodes (node_at m nodes v).left vs
+  IsChain nodes start (v ∷ vs) =
+      (start ≡ v) × (v < length nodes) × IsChain nodes (node_at m nodes v).left vs
 
   -- the nodes are those of this tree and these vacant ones
-  pub record Ranks (nodes : List (Node S)) (top vacant : ℕ) (tree : Tree S) (free : List ℕ) : Type 0 where
-    pub stands : Stands m nodes top tree
-    pub alone : IsUnder m nodes tree absent
-    pub chain : IsChain nodes vacant free
-    pub shared : (j : ℕ) → times j tree + listed j free ≤ 1
-    pub counted : tree_size tree + length free ≡ length nodes
+  pub record Ranks (nodes : List (Node S)) (top vacant : ℕ) (tree : Tree S) (free : List ℕ) : Type 0
+    where
+      pub stands : Stands m nodes top tree
+      pub alone : IsUnder m nodes tree absent
+      pub chain : IsChain nodes vacant free
+      pub shared : (j : ℕ) → times j tree + listed j free ≤ 1
+      pub counted : tree_size tree + length free ≡ length nodes
 
   pub record IsRanked (nodes : List (Node S)) (top vacant : ℕ) : Type 0 where
     pub tree : Tree S
@@ -61,60 +66,65 @@ module _ {S : Type 0} (m : Sums S) where
     pub own_is : (node_at m new slot).own ≡ own
     pub others : (j : ℕ) → j ≢ slot → node_at m new j ≡ node_at m old j
     pub within : slot < length new
-    pub fresh : vacant ≡ absent → (slot ≡ length old) × (next ≡ absent) × (length new ≡ length old + 1)
-    pub reused : vacant < length old → (slot ≡ vacant) × (next ≡ (node_at m old vacant).left) × (length new ≡ length old)
+    pub fresh : vacant ≡ absent
+        → (slot ≡ length old) × (next ≡ absent) × (length new ≡ length old + 1)
+    pub reused : vacant < length old
+        → (slot ≡ vacant) × (next ≡ (node_at m old vacant).left) × (length new ≡ length old)
 
   -- a tree under a root of its own
-  pub record Hangs (old new : List (Node S)) (top place slot : ℕ) (t : Tree S) : Type 0 where
+  pub record Hangs (old new : List (Node S)) (top position slot : ℕ) (t : Tree S) : Type 0 where
     pub tree : Tree S
     pub becomes : Becomes m old new top tree
     pub alone : IsUnder m new tree absent
-    pub order : inorder tree ≡ insert (inorder t) place (slot, (node_at m old slot).own)
+    pub order : inorder tree ≡ insert (inorder t) position (slot, (node_at m old slot).own)
 
   -- one more entry may be put at a place, with no memory
-  pub record CanPutIn (nodes : List (Node S)) (top vacant place capacity : ℕ) (tree : Tree S) (free : List ℕ) : Type 0 where
+  pub record CanPutIn (nodes : List (Node S)) (top vacant position capacity : ℕ) (tree : Tree S)
+      (free : List ℕ) : Type 0 where
     pub ranks : Ranks nodes top vacant tree free
-    pub in_range : place ≤ tree_size tree
+    pub in_range : position ≤ tree_size tree
     pub few : tree_size tree < absent
     pub spare : tree_size tree < capacity
 
-  pub record SomeCanPutIn (nodes : List (Node S)) (top vacant place capacity : ℕ) : Type 0 where
+  pub record SomeCanPutIn (nodes : List (Node S)) (top vacant position capacity : ℕ) : Type 0 where
     pub tree : Tree S
     pub free : List ℕ
-    pub can : CanPutIn nodes top vacant place capacity tree free
+    pub can : CanPutIn nodes top vacant position capacity tree free
 
   -- an entry in a fresh slot was put at a place
-  pub record PutsIn (old new : List (Node S)) (slot top vacant place : ℕ) (own : S) (t : Tree S) : Type 0 where
+  pub record PutsIn (old new : List (Node S)) (slot top vacant position : ℕ) (own : S)
+      (t : Tree S) : Type 0 where
     pub tree : Tree S
     pub free : List ℕ
     pub ranks : Ranks new top vacant tree free
-    pub order : inorder tree ≡ insert (inorder t) place (slot, own)
+    pub order : inorder tree ≡ insert (inorder t) position (slot, own)
     pub fresh : times slot t ≡ 0
     pub next : slot ≤ length old
     pub full : slot ≡ length old → tree_size t ≡ length old
     pub len : length new ≡ max (length old) (slot + 1)
 
-  pub record SomeWithEntry (nodes : List (Node S)) (top vacant place : ℕ) : Type 0 where
+  pub record SomeWithEntry (nodes : List (Node S)) (top vacant position : ℕ) : Type 0 where
     pub tree : Tree S
     pub free : List ℕ
     pub ranks : Ranks nodes top vacant tree free
-    pub in_range : place < tree_size tree
+    pub in_range : position < tree_size tree
 
   -- the entry at a place was taken out, and its slot is the first vacant one
-  pub record TakesOut (old new : List (Node S)) (slot top place : ℕ) (t : Tree S) : Type 0 where
+  pub record TakesOut (old new : List (Node S)) (slot top position : ℕ) (t : Tree S) : Type 0 where
     pub tree : Tree S
     pub free : List ℕ
     pub ranks : Ranks new top slot tree free
-    pub entry : SplitsAt (inorder t) place (slot, (node_at m old slot).own)
-    pub order : inorder tree ≡ remove (inorder t) place
+    pub entry : SplitsAt (inorder t) position (slot, (node_at m old slot).own)
+    pub order : inorder tree ≡ remove (inorder t) position
     pub len : length new ≡ length old
 
   -- the entry at a place has another summary of its own
-  pub record SetsIn (old new : List (Node S)) (top vacant place : ℕ) (own : S) (t : Tree S) : Type 0 where
+  pub record SetsIn (old new : List (Node S)) (top vacant position : ℕ) (own : S)
+      (t : Tree S) : Type 0 where
     pub tree : Tree S
     pub free : List ℕ
     pub ranks : Ranks new top vacant tree free
-    pub order : inorder tree ≡ with_own (inorder t) place own
+    pub order : inorder tree ≡ with_own (inorder t) position own
     pub len : length new ≡ length old
 
 module _ {S : Type 0} where

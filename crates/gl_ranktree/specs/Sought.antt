@@ -18,15 +18,16 @@ module _ {S : Type 0} where
 
 module _ {S : Type 0} (m : Sums S) where
   -- the entries before this place measure no more than the number, and with the entry there they pass it
-  pub record IsSought (measured : S → ℕ) (es : List (ℕ × S)) (k place : ℕ) (before : S) (own : Option S) : Type 0 where
-    pub front : List (ℕ × S)
+  pub record IsSought (measured : S → ℕ) (es : List (ℕ × S)) (k position : ℕ) (before : S)
+      (own : Option S) : Type 0 where
+    pub prefix : List (ℕ × S)
     pub back : List (ℕ × S)
-    pub is : es ≡ front ++ back
-    pub place_is : place ≡ length front
-    pub before_is : before ≡ list_sum m front
+    pub is : es ≡ prefix ++ back
+    pub position_is : position ≡ length prefix
+    pub before_is : before ≡ list_sum m prefix
     pub own_is : own ≡ first_own back
-    pub reached : measured (list_sum m front) ≤ k
-    pub passed : Passes measured (measured (list_sum m front)) k back
+    pub reached : measured (list_sum m prefix) ≤ k
+    pub passed : Passes measured (measured (list_sum m prefix)) k back
 
   -- a tree whose sum the type can hold
   pub record SomeFitting (nodes : List (Node S)) (top : ℕ) : Type 0 where

@@ -44,7 +44,8 @@ module _ {S : Type 0} where
 
   -- neither side is more than so much higher than the other
   abbrev pub DifferByAtMost : ℕ → Tree S → Tree S → Type 0
-  DifferByAtMost by l r = (tree_height l ≤ tree_height r + by) × (tree_height r ≤ tree_height l + by)
+  DifferByAtMost by l r =
+      (tree_height l ≤ tree_height r + by) × (tree_height r ≤ tree_height l + by)
 
   -- the sides of a fork
   abbrev pub left_of : Tree S → Tree S
@@ -68,9 +69,9 @@ module _ {S : Type 0} where
 
   -- the own summary at a place is another one
   abbrev pub with_own : List (ℕ × S) → ℕ → S → List (ℕ × S)
-  with_own [] place own = []
+  with_own [] position own = []
   with_own (e ∷ es) zero own = (e.0, own) ∷ es
-  with_own (e ∷ es) (suc place) own = e ∷ with_own es place own
+  with_own (e ∷ es) (suc position) own = e ∷ with_own es position own
 
   -- the own summaries of a list of entries, added up
   abbrev pub list_sum : Sums S → List (ℕ × S) → S
@@ -78,14 +79,16 @@ module _ {S : Type 0} where
   list_sum m (e ∷ es) = m.plus e.1 (list_sum m es)
 
   -- the list has this entry at a place
-  pub record SplitsAt (xs : List (ℕ × S)) (place : ℕ) (e : ℕ × S) : Type 0 where
-    pub front : List (ℕ × S)
+  pub record SplitsAt (xs : List (ℕ × S)) (position : ℕ) (e : ℕ × S) : Type 0 where
+    pub prefix : List (ℕ × S)
     pub back : List (ℕ × S)
-    pub is : xs ≡ front ++ e ∷ back
-    pub len : length front ≡ place
+    pub is : xs ≡ prefix ++ e ∷ back
+    pub len : length prefix ≡ position
 
   -- the second tree stands in the first, to the right of these entries
   pub data Inside : Tree S → Tree S → List (ℕ × S) → Type 0 where
     whole : {t : Tree S} → Inside t t []
-    on_left : {t l r : Tree S} {i : ℕ} {w : S} {before : List (ℕ × S)} → Inside t (fork l i w r) before → Inside t l before
-    on_right : {t l r : Tree S} {i : ℕ} {w : S} {before : List (ℕ × S)} → Inside t (fork l i w r) before → Inside t r (before ++ (inorder l ++ (i, w) ∷ []))
+    on_left : {t l r : Tree S} {i : ℕ} {w : S} {before : List (ℕ × S)}
+        → Inside t (fork l i w r) before → Inside t l before
+    on_right : {t l r : Tree S} {i : ℕ} {w : S} {before : List (ℕ × S)}
+        → Inside t (fork l i w r) before → Inside t r (before ++ (inorder l ++ (i, w) ∷ []))

@@ -9,11 +9,11 @@ use crate::node::{ABSENT, Node, make, put, read};
 use crate::summary::Summary;
 
 // Puts the node in `slot` at a place of the tree, and returns the new root.
-pub(crate) fn insert<S: Summary>(nodes: &mut [Node<S>], top: u32, place: usize, slot: u32) -> u32
-    requires { SomeCanInsert S.sums nodes.old top place slot }
+pub(crate) fn insert<S: Summary>(nodes: &mut [Node<S>], top: u32, position: usize, slot: u32) -> u32
+    requires { SomeCanInsert S.sums nodes.old top position slot }
     ensures { (t : Tree _)
-        → CanInsert S.sums nodes.old top place slot t
-        → Inserts S.sums nodes.old nodes.new result place slot t }
+        → CanInsert S.sums nodes.old top position slot t
+        → Inserts S.sums nodes.old nodes.new result position slot t }
 {
     if top == ABSENT {
         make(nodes, ABSENT, slot, ABSENT);
@@ -21,11 +21,11 @@ pub(crate) fn insert<S: Summary>(nodes: &mut [Node<S>], top: u32, place: usize, 
     }
     let here = read(nodes, top);
     let before = read(nodes, here.left).size as usize;
-    if place <= before {
-        let left = insert(nodes, here.left, place, slot);
+    if position <= before {
+        let left = insert(nodes, here.left, position, slot);
         join(nodes, left, top, here.right)
     } else {
-        let right = insert(nodes, here.right, place - before - 1, slot);
+        let right = insert(nodes, here.right, position - before - 1, slot);
         join(nodes, here.left, top, right)
     }
 }
@@ -62,20 +62,20 @@ fn merge<S: Summary>(nodes: &mut [Node<S>], left: u32, right: u32) -> u32
 }
 
 // Takes the node at a place out, and returns the new root.
-pub(crate) fn remove<S: Summary>(nodes: &mut [Node<S>], top: u32, place: usize) -> u32
-    requires { SomeWithPlace S.sums nodes.old top place }
+pub(crate) fn remove<S: Summary>(nodes: &mut [Node<S>], top: u32, position: usize) -> u32
+    requires { SomeWithPlace S.sums nodes.old top position }
     ensures { (t : Tree _)
         → Stands S.sums nodes.old top t
-        → place < tree_size t
-        → Removes S.sums nodes.old nodes.new result place t }
+        → position < tree_size t
+        → Removes S.sums nodes.old nodes.new result position t }
 {
     let here = read(nodes, top);
     let before = read(nodes, here.left).size as usize;
-    if place < before {
-        let left = remove(nodes, here.left, place);
+    if position < before {
+        let left = remove(nodes, here.left, position);
         join(nodes, left, top, here.right)
-    } else if place > before {
-        let right = remove(nodes, here.right, place - before - 1);
+    } else if position > before {
+        let right = remove(nodes, here.right, position - before - 1);
         join(nodes, here.left, top, right)
     } else {
         merge(nodes, here.left, here.right)
@@ -83,20 +83,20 @@ pub(crate) fn remove<S: Summary>(nodes: &mut [Node<S>], top: u32, place: usize) 
 }
 
 // Gives the node at a place another own summary, and adds up those above it anew.
-pub(crate) fn set_own<S: Summary>(nodes: &mut [Node<S>], top: u32, place: usize, own: S)
-    requires { SomeWithPlace S.sums nodes.old top place }
+pub(crate) fn set_own<S: Summary>(nodes: &mut [Node<S>], top: u32, position: usize, own: S)
+    requires { SomeWithPlace S.sums nodes.old top position }
     ensures { (t : Tree _)
         → Stands S.sums nodes.old top t
-        → place < tree_size t
-        → SetsOwn S.sums nodes.old nodes.new top place own t }
+        → position < tree_size t
+        → SetsOwn S.sums nodes.old nodes.new top position own t }
 {
     let here = read(nodes, top);
     let before = read(nodes, here.left).size as usize;
-    if place < before {
-        set_own(nodes, here.left, place, own);
+    if position < before {
+        set_own(nodes, here.left, position, own);
         make(nodes, here.left, top, here.right);
-    } else if place > before {
-        set_own(nodes, here.right, place - before - 1, own);
+    } else if position > before {
+        set_own(nodes, here.right, position - before - 1, own);
         make(nodes, here.left, top, here.right);
     } else {
         put(nodes, top, Node { own, ..here });

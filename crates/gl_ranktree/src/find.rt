@@ -8,26 +8,26 @@ use crate::node::{ABSENT, Node, read};
 use crate::summary::Summary;
 
 // The slot of the node at a place.
-pub(crate) fn slot_at<S: Summary>(nodes: &[Node<S>], top: u32, place: usize) -> u32
-    requires { SomeWithPlace S.sums nodes.now top place }
+pub(crate) fn slot_at<S: Summary>(nodes: &[Node<S>], top: u32, position: usize) -> u32
+    requires { SomeWithPlace S.sums nodes.now top position }
     ensures { (t : Tree _)
         → Stands S.sums nodes.now top t
-        → place < tree_size t
-        → IsEntryAt S.sums nodes.now t place result }
+        → position < tree_size t
+        → IsEntryAt S.sums nodes.now t position result }
 {
     let here = read(nodes, top);
     let before = read(nodes, here.left).size as usize;
-    if place < before {
-        slot_at(nodes, here.left, place)
-    } else if place > before {
-        slot_at(nodes, here.right, place - before - 1)
+    if position < before {
+        slot_at(nodes, here.left, position)
+    } else if position > before {
+        slot_at(nodes, here.right, position - before - 1)
     } else {
         top
     }
 }
 
 // How many entries stand to the left of the subtree under a node.
-pub(crate) fn places_before<S: Summary>(nodes: &[Node<S>], slot: u32) -> usize
+pub(crate) fn positions_before<S: Summary>(nodes: &[Node<S>], slot: u32) -> usize
     requires { SomeWithin S.sums nodes.now slot }
     ensures { (t u : Tree _) (before : List (ℕ × _))
         → IsWithin S.sums nodes.now slot t u before
@@ -39,8 +39,8 @@ pub(crate) fn places_before<S: Summary>(nodes: &[Node<S>], slot: u32) -> usize
     }
     let above = read(nodes, parent);
     if above.left == slot {
-        return places_before(nodes, parent);
+        return positions_before(nodes, parent);
     }
     let between = read(nodes, above.left).size as usize + 1;
-    places_before(nodes, parent) + between
+    positions_before(nodes, parent) + between
 }

@@ -12,7 +12,7 @@ use crate::summary::Summary;
 #[derive(Clone, Copy)]
 pub struct Sought<S> {
     /// The place of the entry, or the number of entries where none passes.
-    pub place: usize,
+    pub position: usize,
     /// The sum of the entries before it.
     pub before: S,
     /// Its own summary, `None` where none passes.
@@ -27,11 +27,13 @@ pub(crate) fn seek<S: Summary, M: Measure<S>>(
     k: usize,
 ) -> Sought<S>
     requires { SomeFitting S.sums nodes.now top }
-    ensures { (t : Tree _) → Stands S.sums nodes.now top t → IsTrue (S.sums.fits (tree_sum S.sums t)) → IsSought S.sums (M.measured by) (inorder t) k result.place result.before result.own }
+    ensures { (t : Tree _) → Stands S.sums nodes.now top t
+        → IsTrue (S.sums.fits (tree_sum S.sums t))
+        → IsSought S.sums (M.measured by) (inorder t) k result.position result.before result.own }
 {
     if top == ABSENT {
         return Sought {
-            place: 0,
+            position: 0,
             before: S::zero(),
             own: None,
         };
@@ -45,14 +47,14 @@ pub(crate) fn seek<S: Summary, M: Measure<S>>(
     let reached = by.of(through);
     if k < reached {
         return Sought {
-            place: left.size as usize,
+            position: left.size as usize,
             before: left.sum,
             own: Some(here.own),
         };
     }
     let rest = seek(nodes, here.right, by, k - reached);
     Sought {
-        place: left.size as usize + 1 + rest.place,
+        position: left.size as usize + 1 + rest.position,
         before: through.plus(rest.before),
         own: rest.own,
     }

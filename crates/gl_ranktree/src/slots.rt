@@ -45,13 +45,13 @@ fn claim<S: Summary>(nodes: &mut Vec<Node<S>>, vacant: u32, own: S) -> (u32, u32
 }
 
 // Puts the node in `slot` at a place of the tree, and returns the new root, which has no parent.
-fn hang<S: Summary>(nodes: &mut [Node<S>], root: u32, place: usize, slot: u32) -> u32
-    requires { SomeCanInsert S.sums nodes.old root place slot }
+fn hang<S: Summary>(nodes: &mut [Node<S>], root: u32, position: usize, slot: u32) -> u32
+    requires { SomeCanInsert S.sums nodes.old root position slot }
     ensures { (t : Tree _)
-        → CanInsert S.sums nodes.old root place slot t
-        → Hangs S.sums nodes.old nodes.new result place slot t }
+        → CanInsert S.sums nodes.old root position slot t
+        → Hangs S.sums nodes.old nodes.new result position slot t }
 {
-    let top = insert(nodes, root, place, slot);
+    let top = insert(nodes, root, position, slot);
     set_parent(nodes, top, ABSENT);
     top
 }
@@ -61,17 +61,17 @@ pub(crate) fn put_in<S: Summary>(
     nodes: &mut Vec<Node<S>>,
     root: u32,
     vacant: u32,
-    place: usize,
+    position: usize,
     own: S,
 ) -> Placed
-    requires { SomeCanPutIn S.sums nodes.old.items root vacant place (vec_capacity nodes.old) }
+    requires { SomeCanPutIn S.sums nodes.old.items root vacant position (vec_capacity nodes.old) }
     ensures puts { (t : Tree _) (free : List ℕ)
-        → CanPutIn S.sums nodes.old.items root vacant place (vec_capacity nodes.old) t free
-        → PutsIn S.sums nodes.old.items nodes.new.items result.slot result.root result.vacant place own t }
+        → CanPutIn S.sums nodes.old.items root vacant position (vec_capacity nodes.old) t free
+        → PutsIn S.sums nodes.old.items nodes.new.items result.slot result.root result.vacant position own t }
     ensures capacity { vec_capacity nodes.new ≡ vec_capacity nodes.old }
 {
     let (slot, vacant) = claim(nodes, vacant, own);
-    let root = hang(nodes.as_mut_slice(), root, place, slot);
+    let root = hang(nodes.as_mut_slice(), root, position, slot);
     Placed { slot, root, vacant }
 }
 
@@ -80,16 +80,16 @@ pub(crate) fn take_out<S: Summary>(
     nodes: &mut [Node<S>],
     root: u32,
     vacant: u32,
-    place: usize,
+    position: usize,
 ) -> (u32, u32)
-    requires { SomeWithEntry S.sums nodes.old root vacant place }
+    requires { SomeWithEntry S.sums nodes.old root vacant position }
     ensures { (t : Tree _) (free : List ℕ)
         → Ranks S.sums nodes.old root vacant t free
-        → place < tree_size t
-        → TakesOut S.sums nodes.old nodes.new result.0 result.1 place t }
+        → position < tree_size t
+        → TakesOut S.sums nodes.old nodes.new result.0 result.1 position t }
 {
-    let slot = slot_at(nodes, root, place);
-    let top = remove(nodes, root, place);
+    let slot = slot_at(nodes, root, position);
+    let top = remove(nodes, root, position);
     set_parent(nodes, top, ABSENT);
     let gone = read(nodes, slot);
     put(
@@ -104,13 +104,13 @@ pub(crate) fn take_out<S: Summary>(
 }
 
 // Gives the entry at a place another summary of its own.
-pub(crate) fn set_in<S: Summary>(nodes: &mut [Node<S>], root: u32, place: usize, own: S)
-    requires { SomeWithPlace S.sums nodes.old root place }
+pub(crate) fn set_in<S: Summary>(nodes: &mut [Node<S>], root: u32, position: usize, own: S)
+    requires { SomeWithPlace S.sums nodes.old root position }
     ensures { (t : Tree _) (vacant : ℕ) (free : List ℕ)
         → Ranks S.sums nodes.old root vacant t free
-        → place < tree_size t
-        → SetsIn S.sums nodes.old nodes.new root vacant place own t }
+        → position < tree_size t
+        → SetsIn S.sums nodes.old nodes.new root vacant position own t }
 {
-    set_own(nodes, root, place, own);
+    set_own(nodes, root, position, own);
     set_parent(nodes, root, ABSENT);
 }

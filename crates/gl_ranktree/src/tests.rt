@@ -61,11 +61,11 @@ impl Measure<Points> for All {
 fn insert(
     rt: &impl Abort,
     tree: &mut RankTree<Points>,
-    place: usize,
+    position: usize,
     total: u32,
 ) -> Result<u32, Fail> {
-    assert!(rt; place <= tree.len() && tree.len() < 100000);
-    Ok(tree.insert_at(place, Points { total })?)
+    assert!(rt; position <= tree.len() && tree.len() < 100000);
+    Ok(tree.insert_at(position, Points { total })?)
 }
 
 #[test]
@@ -104,7 +104,7 @@ fn entries_are_added_up(rt: HostRuntime) -> Result<(), Fail> {
     let five = Points { total: 5 };
     let (sum, sought) = one_entry(&mut tree)?;
     assert_eq!(rt; sum, five);
-    assert_eq!(rt; sought.place, 0);
+    assert_eq!(rt; sought.position, 0);
     assert_eq!(rt; sought.before, Points { total: 0 });
     assert_eq!(rt; sought.own, Some(five));
     Ok(())

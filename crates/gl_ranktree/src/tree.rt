@@ -4,7 +4,7 @@ ghost use Rattle.gl_ranktree.specs.Sought.{IsSought};
 ghost use Rattle.gl_ranktree.specs.Tree.{list_sum, with_own};
 
 use crate::descent::Descent;
-use crate::find::{places_before, slot_at};
+use crate::find::{positions_before, slot_at};
 use crate::measure::Measure;
 use crate::node::{ABSENT, Node, read};
 use crate::seek::{Sought, seek};
@@ -76,12 +76,12 @@ impl<S: Summary> RankTree<S> {
     }
 
     /// The entry at a place, as its slot and its summary.
-    pub fn get(&self, place: usize) -> Option<(u32, S)>
-        ensures { result ≡ slice_get self.now.entries place }
+    pub fn get(&self, position: usize) -> Option<(u32, S)>
+        ensures { result ≡ slice_get self.now.entries position }
     {
         let nodes = self.nodes.as_slice();
-        if place < read(nodes, self.root).size as usize {
-            let slot = slot_at(nodes, self.root, place);
+        if position < read(nodes, self.root).size as usize {
+            let slot = slot_at(nodes, self.root, position);
             Some((slot, read(nodes, slot).own))
         } else {
             None
@@ -96,7 +96,7 @@ impl<S: Summary> RankTree<S> {
     {
         let nodes = self.nodes.as_slice();
         let below = read(nodes, read(nodes, slot).left).size as usize;
-        places_before(nodes, slot) + below
+        positions_before(nodes, slot) + below
     }
 
     /// The sum of all entries, in constant time. It is right where the type can hold it.
@@ -110,7 +110,8 @@ impl<S: Summary> RankTree<S> {
     /// The first entry with which the measure of the entries so far passes `k`, in one descent.
     pub fn seek<M: Measure<S>>(&self, by: M, k: usize) -> Sought<S>
         requires { IsTrue (S.sums.fits (list_sum S.sums self.now.entries)) }
-        ensures { IsSought S.sums (M.measured by) self.now.entries k result.place result.before result.own }
+        ensures { IsSought S.sums (M.measured by) self.now.entries k result.position result.before
+            result.own }
     {
         seek(self.nodes.as_slice(), self.root, by, k)
     }
@@ -149,29 +150,29 @@ impl<S: Summary> RankTree<S> {
     }
 
     /// Puts an entry at a place in room that was reserved, and returns its slot.
-    pub fn insert_reserved(&mut self, place: usize, own: S) -> u32
-        requires in_range { place ≤ length self.old.entries }
+    pub fn insert_reserved(&mut self, position: usize, own: S) -> u32
+        requires in_range { position ≤ length self.old.entries }
         requires few { length self.old.entries + 1 < 2 ^ 32 }
         requires spare { length self.old.entries < self.old.room }
-        ensures entries { self.new.entries ≡ insert self.old.entries place (result, own) }
+        ensures entries { self.new.entries ≡ insert self.old.entries position (result, own) }
         ensures fresh { ¬ Contains (slots_of self.old.entries) result }
         ensures next { result ≤ self.old.slots }
         ensures new_if_full { result ≡ self.old.slots → length self.old.entries ≡ self.old.slots }
         ensures slots { self.new.slots ≡ max self.old.slots (result + 1) }
         ensures room { self.new.room ≡ self.old.room }
     {
-        let placed = put_in(&mut self.nodes, self.root, self.vacant, place, own);
+        let placed = put_in(&mut self.nodes, self.root, self.vacant, position, own);
         self.root = placed.root;
         self.vacant = placed.vacant;
         placed.slot
     }
 
     /// Puts an entry at a place and returns its slot. It takes memory where there is no room.
-    pub fn insert_at(&mut self, place: usize, own: S) -> Result<u32, AllocError>
-        requires in_range { place ≤ length self.old.entries }
+    pub fn insert_at(&mut self, position: usize, own: S) -> Result<u32, AllocError>
+        requires in_range { position ≤ length self.old.entries }
         requires few { length self.old.entries + 1 < 2 ^ 32 }
         ensures entries { IfOk result
-            (λ slot. self.new.entries ≡ insert self.old.entries place (slot, own)) }
+            (λ slot. self.new.entries ≡ insert self.old.entries position (slot, own)) }
         ensures fresh { IfOk result (λ slot. ¬ Contains (slots_of self.old.entries) slot) }
         ensures next { IfOk result (λ slot. slot ≤ self.old.slots) }
         ensures new_if_full { IfOk result
@@ -182,33 +183,33 @@ impl<S: Summary> RankTree<S> {
         ensures room { self.old.room ≤ self.new.room }
     {
         self.reserve(1)?;
-        Ok(self.insert_reserved(place, own))
+        Ok(self.insert_reserved(position, own))
     }
 
     /// Takes the entry at a place out, and returns its slot and its summary.
-    pub fn remove_at(&mut self, place: usize) -> (u32, S)
-        requires { place < length self.old.entries }
-        ensures value { slice_get self.old.entries place ≡ Some result }
-        ensures entries { self.new.entries ≡ remove self.old.entries place }
+    pub fn remove_at(&mut self, position: usize) -> (u32, S)
+        requires { position < length self.old.entries }
+        ensures value { slice_get self.old.entries position ≡ Some result }
+        ensures entries { self.new.entries ≡ remove self.old.entries position }
         ensures slots { self.new.slots ≡ self.old.slots }
         ensures room { self.new.room ≡ self.old.room }
     {
         let nodes = self.nodes.as_slice();
-        let slot = slot_at(nodes, self.root, place);
+        let slot = slot_at(nodes, self.root, position);
         let own = read(nodes, slot).own;
-        let (vacant, root) = take_out(self.nodes.as_mut_slice(), self.root, self.vacant, place);
+        let (vacant, root) = take_out(self.nodes.as_mut_slice(), self.root, self.vacant, position);
         self.root = root;
         self.vacant = vacant;
         (slot, own)
     }
 
     /// Gives the entry at a place another summary.
-    pub fn set_own(&mut self, place: usize, own: S)
-        requires { place < length self.old.entries }
-        ensures entries { self.new.entries ≡ with_own self.old.entries place own }
+    pub fn set_own(&mut self, position: usize, own: S)
+        requires { position < length self.old.entries }
+        ensures entries { self.new.entries ≡ with_own self.old.entries position own }
         ensures slots { self.new.slots ≡ self.old.slots }
         ensures room { self.new.room ≡ self.old.room }
     {
-        set_in(self.nodes.as_mut_slice(), self.root, place, own);
+        set_in(self.nodes.as_mut_slice(), self.root, position, own);
     }
 }

@@ -1,7 +1,7 @@
 -- Writing the changes of an event one after another.
 use Rattle.std.proofs.Common.{◌≡◌, ◌∙◌, ℕ, ◌++◌, List, ◌∷◌, ap, sym, append_assoc, append-nil}
 use Rattle.std.specs.Prelude.{Bool, true, false, codes}
-use Rattle.spec_lists.specs.Changes.{Change}
+use Rattle.gl_event.specs.ListsChanges.{Change}
 use Rattle.spec_reports.specs.Event.{change_text, other_changes, changes_text}
 use Rattle.gl_report.specs.Told.{separator, changes_left}
 

@@ -6,12 +6,12 @@ use Rattle.gl_outside.specs.declared.gate.Actor.{Actor}
 use Rattle.gl_lines.specs.declared.plan.ListDecl.{ListDecl}
 use Rattle.gl_lines.specs.declared.plan.ListenerDecl.{ListenerDecl}
 use Rattle.gl_lines.specs.declared.reply.Reply.{Reply}
-use Rattle.spec_plans.specs.Plan.{Plan}
-use Rattle.spec_states.specs.State.{Own, State, source, over, composite, transaction, freezable, proxy, own_at}
-use Rattle.spec_states.specs.Shown.{Table, shows_in}
-use Rattle.spec_runs.specs.Telling.{Telling}
-use Rattle.spec_texts.specs.Value.{spelled_list}
-use Rattle.spec_states.proofs.Plain.{IsPlainOwn}
+use Rattle.spec_reports.specs.Plan.{Plan}
+use Rattle.spec_reports.specs.State.{Own, State, source, over, composite, transaction, freezable, proxy, own_at}
+use Rattle.spec_reports.specs.Shown.{Table, shows_in}
+use Rattle.spec_reports.specs.Telling.{Telling}
+use Rattle.spec_reports.specs.ValueText.{spelled_list}
+use Rattle.spec_reports.proofs.Plain.{IsPlainOwn}
 use Rattle.spec_reports.specs.Report.{line_feed, refused_lines, held_line, told_lines, told_first, told_later, entry_lines, list_lines, listener_name}
 use Rattle.spec_reports.specs.Event.{event_text}
 use Rattle.gl_world.specs.declared.telling.Telling.{Telling as Told}
@@ -142,6 +142,6 @@ later_more ts k place t total within is here whole =
 pub four_written : (out a b c d : List ℕ) → (((out ++ a) ++ b) ++ c) ++ d ≡ out ++ (((a ++ b) ++ c) ++ d)
 four_written out a b c d = simp append_assoc
 
--- what is taken of a list behind a place, as far as its end, is all that is there
+-- what is taken of a list after a place, as far as its end, is all that is there
 pub take_rest : {X : Type 0} (xs : List X) (n : ℕ) → take (length xs - n) (drop n xs) ≡ drop n xs
 take_rest xs n = take_all (length xs - n) (drop n xs) (omega (arith, length-drop n xs))

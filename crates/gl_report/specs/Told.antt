@@ -1,6 +1,6 @@
 -- The text of an event, as it is written piece by piece.
 use Rattle.std.specs.Prelude.{ℕ, Bool, true, false, List, [], codes}
-use Rattle.spec_lists.specs.Changes.{Change}
+use Rattle.gl_event.specs.ListsChanges.{Change}
 use Rattle.spec_reports.specs.Event.{other_changes, changes_text}
 
 -- what stands before a change: nothing before the first

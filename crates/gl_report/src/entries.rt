@@ -1,7 +1,7 @@
 //! What each entry was answered and told.
 
 ghost use Rattle.std.specs.Prelude.{◌≡◌, ◌≤◌, ◌++◌, drop, length, IfOk, OnOk};
-ghost use Rattle.spec_runs.specs.Run.{run};
+ghost use Rattle.spec_reports.specs.Run.{run};
 ghost use Rattle.spec_reports.specs.Report.{listener_name, refused_lines, told_lines, told_first, told_later, entry_lines};
 ghost use Rattle.gl_world.specs.Told.{telling_data, tellings_of};
 ghost use Rattle.gl_report.specs.Lines.{spelled_entry, told_line};
@@ -28,14 +28,14 @@ pub fn write_entries<N: RunName>(world: &World<N>, out: &mut Bytes) -> Result<()
         let replies = world.replies(place as u64);
         write_entry(plan.lists(), place as u64, *actor, replies, out)?;
         let count = write_told(plan.listeners(), place as u64, told, out)?;
-        told = behind(told, count);
+        told = rest(told, count);
     }
     Ok(())
 }
 
-// The tellings behind so many.
+// The tellings after so many.
 #[tactic(auto, using(crate::proofs::Lines::take_rest))]
-fn behind(told: &[Telling], count: usize) -> &[Telling]
+fn rest(told: &[Telling], count: usize) -> &[Telling]
     requires { count ≤ length told.now }
     ensures { result.now ≡ drop count told.now }
 {
@@ -69,7 +69,8 @@ fn write_telling(
     telling: &Telling,
     out: &mut Bytes,
 ) -> Result<(), Memory>
-    ensures { OnOk result (out.new ≡ out.old ++ told_line listeners.now (telling_data telling.now)) }
+    ensures { OnOk result
+        (out.new ≡ out.old ++ told_line listeners.now (telling_data telling.now)) }
 {
     out.push_all(b"told ")?;
     write_name(listeners, telling.listener, out)?;
@@ -86,7 +87,8 @@ fn write_refused(
     count: u32,
     out: &mut Bytes,
 ) -> Result<(), Memory>
-    ensures { OnOk result (out.new ≡ out.old ++ refused_lines (listener_name listeners.now listener) count) }
+    ensures { OnOk result
+        (out.new ≡ out.old ++ refused_lines (listener_name listeners.now listener) count) }
 {
     'refused: for _ in 0..count {
         write_one_refused(listeners, listener, out)?;
@@ -99,7 +101,8 @@ fn write_one_refused(
     listener: u32,
     out: &mut Bytes,
 ) -> Result<(), Memory>
-    ensures { OnOk result (out.new ≡ out.old ++ refused_lines (listener_name listeners.now listener) 1) }
+    ensures { OnOk result
+        (out.new ≡ out.old ++ refused_lines (listener_name listeners.now listener) 1) }
 {
     out.push_all(b"refused ")?;
     write_name(listeners, listener, out)?;

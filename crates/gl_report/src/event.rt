@@ -1,7 +1,7 @@
 //! Events and tellings.
 
 ghost use Rattle.std.specs.Prelude.{◌≡◌, ◌++◌, OnOk, OnErr, codes, decimal};
-ghost use Rattle.spec_texts.specs.Value.{spelled_value};
+ghost use Rattle.spec_reports.specs.ValueText.{spelled_value};
 ghost use Rattle.spec_reports.specs.Event.{change_text, event_text};
 ghost use Rattle.gl_event.specs.Changes.{change_ref};
 ghost use Rattle.gl_report.specs.Told.{separator};
@@ -68,7 +68,8 @@ fn write_change(change: &Change<'_>, out: &mut Bytes) -> Result<(), Memory>
 
 // An index and a value.
 fn write_at(at: usize, value: &Value, out: &mut Bytes) -> Result<(), Memory>
-    ensures { OnOk result (out.new ≡ out.old ++ decimal at ++ codes " " ++ spelled_value value.now) }
+    ensures { OnOk result
+        (out.new ≡ out.old ++ decimal at ++ codes " " ++ spelled_value value.now) }
 {
     add_number(at as u64, out)?;
     out.push_all(b" ")?;

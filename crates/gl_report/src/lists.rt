@@ -1,9 +1,9 @@
 //! What the lists of a world show.
 
 ghost use Rattle.std.specs.Prelude.{◌≡◌, ◌<◌, ◌++◌, length, OnOk};
-ghost use Rattle.spec_states.specs.Shown.{table_of};
-ghost use Rattle.spec_runs.specs.Run.{run, shown_after};
-ghost use Rattle.spec_texts.specs.Value.{spelled_list};
+ghost use Rattle.spec_reports.specs.Shown.{table_of};
+ghost use Rattle.spec_reports.specs.Run.{run, shown_after};
+ghost use Rattle.spec_reports.specs.ValueText.{spelled_list};
 ghost use Rattle.spec_reports.specs.Report.{list_lines};
 ghost use Rattle.gl_report.specs.Lines.{list_line};
 

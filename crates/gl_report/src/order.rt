@@ -20,7 +20,7 @@ pub fn write_order(order: &[Actor], out: &mut Bytes) -> Result<(), Memory>
     }
 }
 
-// The actors behind the first one.
+// The actors after the first one.
 fn write_others(others: &[Actor], out: &mut Bytes) -> Result<(), Memory>
     ensures { OnOk result (out.new ≡ out.old ++ spelled_rest others.now) }
 {

@@ -1,7 +1,7 @@
 //! What the commands of an entry were answered.
 
 ghost use Rattle.std.specs.Prelude.{◌≡◌, ◌++◌, OnOk, codes, decimal};
-ghost use Rattle.spec_texts.specs.Value.{spelled_list};
+ghost use Rattle.spec_reports.specs.ValueText.{spelled_list};
 ghost use Rattle.spec_reports.specs.Report.{list_name, reply_text, reply_lines};
 
 use gl_lines::{ListDecl, Reply};

@@ -1,3 +1,4 @@
-pub mod Building
-pub mod Logging
-pub mod Leading
+pub mod Built
+pub mod Logs
+pub mod Leads
+pub use Rattle.gl_kernel.proofs.Play

@@ -12,7 +12,8 @@ pub record Kept : Type 0 where
 
 abbrev pub kept_code : Coded Kept
 kept_code =
-    code_by (List Tree × (ℕ × ℕ)) (coded× (coded_list tree_code) (coded× coded_ℕ coded_ℕ)) (λ k. (k.values, (k.limit, k.room)))
+    code_by (List Tree × (ℕ × ℕ)) (coded× (coded_list tree_code) (coded× coded_ℕ coded_ℕ))
+    (λ k. (k.values, (k.limit, k.room)))
     (λ p. record { values = p.0; limit = p.1.0; room = p.1.1 }) (λ _. refl)
 
 -- the elements are within the limit, and the limit within that of deltas

@@ -8,10 +8,12 @@ use Rattle.gl_source.specs.Edits.{edited, told}
 abbrev five_nine : List Tree
 five_nine = num (pos 5) ∷ num (pos 9) ∷ []
 
-appends : told (Append (num (pos 1) ∷ num (pos 2) ∷ [])) five_nine ≡ kept ∷ kept ∷ inserted (num (pos 1)) ∷ inserted (num (pos 2)) ∷ []
+appends : told (Append (num (pos 1) ∷ num (pos 2) ∷ [])) five_nine
+    ≡ kept ∷ kept ∷ inserted (num (pos 1)) ∷ inserted (num (pos 2)) ∷ []
 appends = refl
 
-inserts_at_the_end : edited (Insert 2 (num (pos 1))) five_nine ≡ num (pos 5) ∷ num (pos 9) ∷ num (pos 1) ∷ []
+inserts_at_the_end : edited (Insert 2 (num (pos 1))) five_nine
+    ≡ num (pos 5) ∷ num (pos 9) ∷ num (pos 1) ∷ []
 inserts_at_the_end = refl
 
 inserts_before : told (Insert 1 (num (pos 1))) five_nine ≡ kept ∷ inserted (num (pos 1)) ∷ kept ∷ []

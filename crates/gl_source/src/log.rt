@@ -18,34 +18,39 @@ pub(crate) fn log_of(alloc: Global, d: &Delta) -> Result<Vec<LogStep<Value>>, Al
 {
     let _olds = d.old_len();
     let mut log = Vec::new(alloc);
-    let mut place = 0;
+    let mut position = 0;
     let mut cells = d.cells();
     'cells: while let Some(cell) = cells.next() {
-        place = note(&mut log, place, cell)?;
+        position = note(&mut log, position, cell)?;
     }
     Ok(log)
 }
 
-// The edits of one cell more. It answers the place behind it.
-fn note(log: &mut Vec<LogStep<Value>>, place: usize, cell: CellRef<'_>) -> Result<usize, AllocError>
-    requires { place + old_len (pieces_in (cell_ref cell)) ≤ 2147483647 }
+// The edits of one cell more. It answers the place after it.
+fn note(
+    log: &mut Vec<LogStep<Value>>,
+    position: usize,
+    cell: CellRef<'_>,
+) -> Result<usize, AllocError>
+    requires { position + old_len (pieces_in (cell_ref cell)) ≤ 2147483647 }
     ensures edits { OnOk result (log.new.items
-        ≡ log.old.items ++ edits_of place (map (fate itself) (pieces_in (cell_ref cell.entry)))) }
-    ensures place { IfOk result (λ behind. behind ≡ place + old_len (pieces_in (cell_ref cell.entry))) }
+        ≡ log.old.items ++ edits_of position (map (fate itself) (pieces_in (cell_ref cell.entry)))) }
+    ensures position { IfOk result
+        (λ rest. rest ≡ position + old_len (pieces_in (cell_ref cell.entry))) }
 {
     match cell {
-        CellRef::Keep(n) => Ok(place + n),
+        CellRef::Keep(n) => Ok(position + n),
         CellRef::Update(_old, new) => {
-            log.push(LogStep::Set(place, new.copy()?))?;
-            Ok(place + 1)
+            log.push(LogStep::Set(position, new.copy()?))?;
+            Ok(position + 1)
         }
         CellRef::Delete(_old) => {
-            log.push(LogStep::Remove(place))?;
-            Ok(place + 1)
+            log.push(LogStep::Remove(position))?;
+            Ok(position + 1)
         }
         CellRef::Insert(new) => {
-            log.push(LogStep::Insert(place, new.copy()?))?;
-            Ok(place)
+            log.push(LogStep::Insert(position, new.copy()?))?;
+            Ok(position)
         }
     }
 }

@@ -66,7 +66,8 @@ impl SourceList {
     pub fn edit(&mut self, e: Edit) -> Result<(Delta, SourceUndo), EditFault>
         ensures pieces { IfOk result (λ done. done.0.pieces ≡ told e self.old.values) }
         ensures values { OnOk result (self.new.values ≡ edited e self.old.values) }
-        ensures leads { IfOk result (λ done. IsDelta done.0.pieces self.old.values self.new.values) }
+        ensures leads { IfOk result
+            (λ done. IsDelta done.0.pieces self.old.values self.new.values) }
         ensures undo { IfOk result (λ done. IsUndo done.1 self.old self.new) }
         ensures out_of_range { (index len : ℕ)
             → (result ≡ Err (EditFault.OutOfRange index len)) ↔ IsOutOfRange e self.old.values index len }
@@ -130,8 +131,8 @@ impl Shelf for SourceList {
         self.list.len()
     }
 
-    fn get(&self, place: usize) -> Option<&Value> {
-        self.list.get(place)
+    fn get(&self, position: usize) -> Option<&Value> {
+        self.list.get(position)
     }
 }
 
@@ -142,8 +143,8 @@ fn filled(alloc: Global, values: &[Value]) -> Result<ValueList, AllocError>
 {
     let mut list = ValueList::new(alloc);
     list.reserve(values.len())?;
-    'values: for place in 0..values.len() {
-        list.insert(place, values[place].copy()?);
+    'values: for position in 0..values.len() {
+        list.insert(position, values[position].copy()?);
     }
     Ok(list)
 }

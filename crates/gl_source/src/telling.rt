@@ -87,8 +87,8 @@ fn clear(alloc: Global, list: &ValueList) -> Result<Delta, AllocError>
     ensures { IfOk result (λ d. d.pieces ≡ clear_told list.now.values) }
 {
     let mut d = Delta::start(alloc);
-    'places: for place in 0..list.len() {
-        tell(&mut d, Cell::Delete(element(list, place).copy()?))?;
+    'positions: for position in 0..list.len() {
+        tell(&mut d, Cell::Delete(element(list, position).copy()?))?;
     }
     Ok(d)
 }

@@ -28,16 +28,16 @@ enum Answer {
     TooLong(u128),
 }
 
-fn shows_at(source: &SourceList, place: usize, n: i64) -> bool {
-    match source.get(place) {
+fn shows_at(source: &SourceList, position: usize, n: i64) -> bool {
+    match source.get(position) {
         Some(v) => is_number(v, n),
         None => false,
     }
 }
 
 fn shows(source: &SourceList, shown: &[i64]) -> bool {
-    for (place, n) in shown.iter().enumerate() {
-        if !shows_at(source, place, *n) {
+    for (position, n) in shown.iter().enumerate() {
+        if !shows_at(source, position, *n) {
             return false;
         }
     }
@@ -112,55 +112,58 @@ fn is_refusal(fault: EditFault, answer: Answer) -> bool {
     }
 }
 
+/// A limit, an edit of 5 and 9, and what it comes to.
+const EDITS: [(u64, Step, Answer); 12] = [
+    (
+        4u64,
+        Step::Append(&[1, 2]),
+        Answer::Done(
+            &[Told::Keep(2), Told::Insert(1), Told::Insert(2)],
+            &[5, 9, 1, 2],
+        ),
+    ),
+    (
+        2,
+        Step::Append(&[]),
+        Answer::Done(&[Told::Keep(2)], &[5, 9]),
+    ),
+    (4, Step::Append(&[1, 2, 3]), Answer::TooLong(5)),
+    (
+        3,
+        Step::Insert(2, 1),
+        Answer::Done(&[Told::Keep(2), Told::Insert(1)], &[5, 9, 1]),
+    ),
+    (
+        3,
+        Step::Insert(0, 1),
+        Answer::Done(&[Told::Insert(1), Told::Keep(2)], &[1, 5, 9]),
+    ),
+    (2, Step::Insert(0, 1), Answer::TooLong(3)),
+    // the index is looked at first
+    (2, Step::Insert(3, 1), Answer::OutOfRange(3, 2)),
+    (
+        2,
+        Step::Set(1, 9),
+        Answer::Done(&[Told::Keep(1), Told::Update(9, 9)], &[5, 9]),
+    ),
+    (9, Step::Set(2, 1), Answer::OutOfRange(2, 2)),
+    (
+        2,
+        Step::Remove(0),
+        Answer::Done(&[Told::Delete(5), Told::Keep(1)], &[9]),
+    ),
+    (9, Step::Remove(u64::MAX), Answer::OutOfRange(u64::MAX, 2)),
+    (
+        2,
+        Step::Clear,
+        Answer::Done(&[Told::Delete(5), Told::Delete(9)], &[]),
+    ),
+];
+
 #[test]
 fn edits(rt: HostRuntime) -> Result<(), Fail> {
     let rows = numbers(rt.alloc(), &[5, 9])?;
-    for (limit, step, answer) in [
-        (
-            4u64,
-            Step::Append(&[1, 2]),
-            Answer::Done(
-                &[Told::Keep(2), Told::Insert(1), Told::Insert(2)],
-                &[5, 9, 1, 2],
-            ),
-        ),
-        (
-            2,
-            Step::Append(&[]),
-            Answer::Done(&[Told::Keep(2)], &[5, 9]),
-        ),
-        (4, Step::Append(&[1, 2, 3]), Answer::TooLong(5)),
-        (
-            3,
-            Step::Insert(2, 1),
-            Answer::Done(&[Told::Keep(2), Told::Insert(1)], &[5, 9, 1]),
-        ),
-        (
-            3,
-            Step::Insert(0, 1),
-            Answer::Done(&[Told::Insert(1), Told::Keep(2)], &[1, 5, 9]),
-        ),
-        (2, Step::Insert(0, 1), Answer::TooLong(3)),
-        // the index is looked at first
-        (2, Step::Insert(3, 1), Answer::OutOfRange(3, 2)),
-        (
-            2,
-            Step::Set(1, 9),
-            Answer::Done(&[Told::Keep(1), Told::Update(9, 9)], &[5, 9]),
-        ),
-        (9, Step::Set(2, 1), Answer::OutOfRange(2, 2)),
-        (
-            2,
-            Step::Remove(0),
-            Answer::Done(&[Told::Delete(5), Told::Keep(1)], &[9]),
-        ),
-        (9, Step::Remove(u64::MAX), Answer::OutOfRange(u64::MAX, 2)),
-        (
-            2,
-            Step::Clear,
-            Answer::Done(&[Told::Delete(5), Told::Delete(9)], &[]),
-        ),
-    ] {
+    for (limit, step, answer) in EDITS {
         let mut source = SourceList::make(rt.alloc(), &rows, limit)?;
         answers(&rt, &mut source, edit(rt.alloc(), step)?, answer)?;
     }

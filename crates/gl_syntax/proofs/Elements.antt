@@ -5,18 +5,13 @@ use Rattle.std.specs.Option.{option_copied}
 use Rattle.std.proofs.lemmas.Option.{slice_get-get_or}
 use Rattle.std.proofs.lemmas.List.{drop_all}
 use Rattle.spec_value.specs.Tree.{Tree, num, tree_size, trees, trees_size}
-use Rattle.spec_texts.specs.Value.{spelled_value, spelled_elements, spelled_others, spelled_list}
+use Rattle.spec_syntax.specs.ValueText.{spelled_value, spelled_elements, spelled_others, spelled_list}
 use Rattle.gl_syntax.specs.Elements.{comma_before, elements_from}
+use Rattle.gl_value.proofs.Lists.{tree_size-at}
 
--- an element is smaller than its list
-pub tree_size-at : (xs : List Tree) (i : ℕ) (x : Tree) → i < length xs → x ≡ get_or xs i x → tree_size x + 1 ≤ trees_size (trees xs)
-tree_size-at [] i x h e = absurd (omega arith)
-tree_size-at (y ∷ ys) zero x h e = rw e (omega arith)
-tree_size-at (y ∷ ys) (suc i) x h e = omega (arith, tree_size-at ys i x (omega arith) e)
-
-others_are : (place : ℕ) (ts : List Tree) → elements_from (suc place) ts ≡ spelled_others (trees ts)
-others_are place [] = refl
-others_are place (t ∷ ts) = ap (λ rest. 44 ∷ spelled_value t ++ rest) (others_are (suc place) ts)
+others_are : (offset : ℕ) (ts : List Tree) → elements_from (suc offset) ts ≡ spelled_others (trees ts)
+others_are offset [] = refl
+others_are offset (t ∷ ts) = ap (λ rest. 44 ∷ spelled_value t ++ rest) (others_are (suc offset) ts)
 
 pub elements_are : (ts : List Tree) → elements_from 0 ts ≡ spelled_elements (trees ts)
 elements_are [] = refl

@@ -1,7 +1,7 @@
 -- What a fault says of the bytes that were not read.
 use Rattle.std.specs.Prelude.{ℕ, List, ⊤}
-use Rattle.spec_grammar.specs.Grammar.{Grammar}
-use Rattle.spec_grammar.specs.Language.{Leaves}
+use Rattle.spec_syntax.specs.Grammar.{Grammar}
+use Rattle.spec_syntax.specs.Language.{Leaves}
 use Rattle.gl_syntax.specs.declared.stop.ReadFault.{ReadFault}
 use Rattle.gl_syntax.specs.declared.stop.ReadFault.TheVariants.{Form, Memory}
 

@@ -1,3 +1,4 @@
 pub mod Stop
 pub mod Fault
 pub mod Elements
+pub mod Numbers

@@ -3,6 +3,8 @@
 //! A writer adds to bytes; where memory runs out it leaves them as they were.
 #![tactic(auto)]
 
+mod cuts;
+mod decimal;
 mod number;
 mod spelling;
 mod stop;
@@ -11,7 +13,9 @@ mod tests;
 mod text;
 mod value;
 
-pub use gl_value::{Bytes, Memory, Value};
+pub use cuts::{cut, next_line};
+pub use decimal::{decimal_index, decimal_number};
+pub use gl_value::{Bytes, Memory, Name, Steps, Text, Value};
 pub use number::{natural_ahead, number_ahead, positive_ahead};
 pub use spelling::{add_comma, add_number, add_signed, add_value, write_value};
 pub use stop::{ReadFault, Stop, begins_with, word};

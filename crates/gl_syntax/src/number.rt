@@ -1,13 +1,13 @@
-//! Numbers at the front of bytes. A number never leaves its range: it ends before the digit with which it would.
+//! Numbers at the beginning of bytes. A number never leaves its range: it ends before the digit with which it would.
 
 ghost use Rattle.std.specs.Prelude.{◌≡◌, ◌≤◌, ◌<◌, IfOk};
-ghost use Rattle.spec_grammar.specs.Reader.{found};
+ghost use Rattle.spec_syntax.specs.Reader.{found};
 ghost use Rattle.spec_syntax.specs.ValueReader.{read_longer, read_positive, read_natural, read_number};
 ghost use Rattle.gl_syntax.specs.Stop.{Reads};
 
 use crate::stop::Stop;
 
-/// The number and the bytes behind it.
+/// The number and the bytes after it.
 pub fn number_ahead(bytes: &[u8]) -> Result<(i64, &[u8]), Stop>
     ensures { Reads result (read_number bytes.now) }
 {
@@ -19,7 +19,7 @@ pub fn number_ahead(bytes: &[u8]) -> Result<(i64, &[u8]), Stop>
     Ok((size as i64, rest))
 }
 
-/// The number from 0 to `top`, and the bytes behind it.
+/// The number from 0 to `top`, and the bytes after it.
 pub fn natural_ahead(top: u64, bytes: &[u8]) -> Result<(u64, &[u8]), Stop>
     requires { 9 ≤ top }
     ensures read { Reads result (read_natural top bytes.now) }
@@ -31,7 +31,7 @@ pub fn natural_ahead(top: u64, bytes: &[u8]) -> Result<(u64, &[u8]), Stop>
     }
 }
 
-/// The number from 1 to `top`, and the bytes behind it.
+/// The number from 1 to `top`, and the bytes after it.
 pub fn positive_ahead(top: u64, bytes: &[u8]) -> Result<(u64, &[u8]), Stop>
     requires { 9 ≤ top }
     ensures read { Reads result (read_positive top bytes.now) }
@@ -44,7 +44,7 @@ pub fn positive_ahead(top: u64, bytes: &[u8]) -> Result<(u64, &[u8]), Stop>
     }
 }
 
-// The number with the digits behind it, as many as leave it within `top`.
+// The number with the digits after it, as many as leave it within `top`.
 fn longer(top: u64, first: u64, bytes: &[u8]) -> (u64, &[u8])
     requires { first ≤ top }
     ensures read { read_longer top first bytes.now ≡ found result.0 result.1.now }

@@ -2,9 +2,9 @@
 
 ghost use Rattle.std.specs.Prelude.{◌≡◌, ◌++◌, ◌<◌, decimal, OnOk, OnErr};
 ghost use Rattle.std.specs.Fmt.{signed_decimal};
-ghost use Rattle.spec_texts.specs.Value.{hex_digit as hex_digit_of, spelled_byte, spelled_value, spelled_list};
+ghost use Rattle.spec_syntax.specs.ValueText.{hex_digit as hex_digit_of, spelled_byte, spelled_value, spelled_list};
 ghost use Rattle.spec_value.specs.Tree.{trees};
-ghost use Rattle.spec_grammar.specs.Language.{Spell};
+ghost use Rattle.spec_syntax.specs.Language.{Spell};
 ghost use Rattle.spec_syntax.specs.Value.{any_value};
 ghost use Rattle.spec_syntax.specs.Proper.{IsProper, AreProper};
 ghost use Rattle.gl_syntax.specs.Elements.{comma_before, spelled_text};
@@ -46,18 +46,18 @@ fn add_values(values: &[Value], out: &mut Bytes) -> Result<(), Memory>
     ensures proper { OnOk result (AreProper (trees values.now)) }
 {
     out.push_all(b"[")?;
-    for (place, value) in values.iter().enumerate() {
-        add_comma(place, out)?;
+    for (offset, value) in values.iter().enumerate() {
+        add_comma(offset, out)?;
         add_value(value, out)?;
     }
     out.push_all(b"]")
 }
 
 /// Adds the comma before an element, which the first one does without.
-pub fn add_comma(place: usize, out: &mut Bytes) -> Result<(), Memory>
-    ensures { OnOk result (out.new ≡ out.old ++ comma_before place) }
+pub fn add_comma(offset: usize, out: &mut Bytes) -> Result<(), Memory>
+    ensures { OnOk result (out.new ≡ out.old ++ comma_before offset) }
 {
-    if place == 0 {
+    if offset == 0 {
         return Ok(());
     }
     out.push_all(b",")

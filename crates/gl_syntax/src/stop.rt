@@ -1,7 +1,7 @@
 //! Where readers stop, and the readers of words and of single bytes.
 
 ghost use Rattle.std.specs.Prelude.{◌≡◌, MatchResult};
-ghost use Rattle.spec_grammar.specs.Reader.{found, first_is, read_word};
+ghost use Rattle.spec_syntax.specs.Reader.{found, first_is, read_word};
 ghost use Rattle.spec_syntax.specs.ValueReader.{is};
 ghost use Rattle.gl_syntax.specs.Stop.{IsStop};
 
@@ -40,7 +40,7 @@ impl From<AllocError> for Stop {
     }
 }
 
-/// What is behind the word, with which the bytes must begin.
+/// What is after the word, with which the bytes must begin.
 #[tactic(auto, using(crate::proofs::Words::word_past))]
 pub fn word<'a>(word: &[u8], bytes: &'a [u8]) -> Result<&'a [u8], Stop>
     ensures { MatchResult result (λ rest. read_word word.now bytes.now ≡ found tt rest.now)

@@ -1,8 +1,8 @@
-//! Texts at the front of bytes.
+//! Texts at the beginning of bytes.
 
 ghost use Rattle.std.specs.Prelude.{◌≡◌, ◌++◌, ◌<◌, ◌≤◌, take, drop, length, MatchResult, IfOk, IsTrue, IsUtf8};
-ghost use Rattle.spec_grammar.specs.Reader.{found, made, first_is};
-ghost use Rattle.spec_syntax.specs.Text.{behind_lead, is_lead, is_hex, hex_value};
+ghost use Rattle.spec_syntax.specs.Reader.{found, made, first_is};
+ghost use Rattle.spec_syntax.specs.Text.{after_lead, is_lead, is_hex, hex_value};
 ghost use Rattle.spec_syntax.specs.ValueReader.{begins_char, read_continued, read_plain, read_escape};
 ghost use Rattle.spec_syntax.specs.ValueReader.{read_hex_byte, read_char, read_chars, read_text};
 ghost use Rattle.gl_syntax.specs.Stop.{IsStop, Reads};
@@ -11,16 +11,16 @@ use crate::stop::{Stop, word};
 use gl_value::{Bytes, Text, TextFault};
 use std::alloc::Global;
 
-/// The text and the bytes behind it. It takes memory for the text, and for its bytes while they are read.
+/// The text and the bytes after it. It takes memory for the text, and for its bytes while they are read.
 #[tactic(auto, using(spec_syntax::proofs::Enclosed::text_found, spec_syntax::proofs::Enclosed::text_stops, spec_syntax::proofs::Enclosed::text_stops_inside, spec_syntax::proofs::Enclosed::text_stops_last, spec_syntax::proofs::Utf8::text_is_utf8,))]
 pub fn text_ahead(alloc: Global, bytes: &[u8]) -> Result<(Text, &[u8]), Stop>
     ensures { Reads result (read_text bytes.now) }
 {
     let inside = word(b"\"", bytes)?;
     let (chars, rest) = chars_ahead(alloc, inside)?;
-    let behind = word(b"\"", rest)?;
+    let after_word = word(b"\"", rest)?;
     let text = text_of(alloc, chars.as_slice())?;
-    Ok((text, behind))
+    Ok((text, after_word))
 }
 
 /// The text of these bytes. It takes memory for the text.
@@ -35,9 +35,10 @@ pub fn text_of(alloc: Global, bytes: &[u8]) -> Result<Text, Stop>
     }
 }
 
-// The bytes that the characters ahead stand for, and the bytes behind them.
+// The bytes that the characters ahead stand for, and the bytes after them.
 fn chars_ahead(alloc: Global, bytes: &[u8]) -> Result<(Bytes, &[u8]), Stop>
-    ensures { MatchResult result (λ x. read_chars bytes.now ≡ found x.0 x.1.now) (IsStop (read_chars bytes.now)) }
+    ensures { MatchResult result (λ x. read_chars bytes.now ≡ found x.0 x.1.now)
+        (IsStop (read_chars bytes.now)) }
 {
     let mut chars = Bytes::new(alloc);
     let mut rest = bytes;
@@ -58,15 +59,15 @@ fn begins_char(bytes: &[u8]) -> bool
     }
 }
 
-// Adds the bytes that the character ahead stands for; the bytes behind it are left.
+// Adds the bytes that the character ahead stands for; the bytes after it are left.
 fn add_char<'a>(bytes: &'a [u8], chars: &mut Bytes) -> Result<&'a [u8], Stop>
     ensures read { MatchResult result
         (λ rest. made (λ char. chars.old ++ char) (read_char bytes.now) ≡ found chars.new rest.now)
         (IsStop (read_char bytes.now)) }
     ensures shorter { IfOk result (λ rest. length rest.now < length bytes.now) }
 {
-    if let [b'\\', behind @ ..] = bytes {
-        let (byte, rest) = escape_ahead(behind)?;
+    if let [b'\\', after_word @ ..] = bytes {
+        let (byte, rest) = escape_ahead(after_word)?;
         chars.push_all(&[byte])?;
         return Ok(rest);
     }
@@ -75,7 +76,7 @@ fn add_char<'a>(bytes: &'a [u8], chars: &mut Bytes) -> Result<&'a [u8], Stop>
     Ok(rest)
 }
 
-// The byte that is escaped, behind the backslash, and the bytes behind it.
+// The byte that is escaped, after the backslash, and the bytes after it.
 fn escape_ahead(bytes: &[u8]) -> Result<(u8, &[u8]), Stop>
     ensures read { Reads result (read_escape bytes.now) }
     ensures shorter { IfOk result (λ x. length x.1.now < length bytes.now) }
@@ -89,7 +90,7 @@ fn escape_ahead(bytes: &[u8]) -> Result<(u8, &[u8]), Stop>
     }
 }
 
-// The byte of two hexadecimal digits, and the bytes behind them.
+// The byte of two hexadecimal digits, and the bytes after them.
 fn hex_byte_ahead(bytes: &[u8]) -> Result<(u8, &[u8]), Stop>
     ensures read { Reads result (read_hex_byte bytes.now) }
     ensures shorter { IfOk result (λ x. length x.1.now < length bytes.now) }
@@ -116,7 +117,7 @@ fn hex_value(digit: u8) -> u8
     }
 }
 
-// The bytes of the character ahead, which stands as it is, and the bytes behind it.
+// The bytes of the character ahead, which stands as it is, and the bytes after it.
 fn plain_ahead(bytes: &[u8]) -> Result<(&[u8], &[u8]), Stop>
     ensures read { MatchResult result (λ x. read_plain bytes.now ≡ found x.0.now x.1.now)
         (IsStop (read_plain bytes.now)) }
@@ -124,7 +125,7 @@ fn plain_ahead(bytes: &[u8]) -> Result<(&[u8], &[u8]), Stop>
 {
     match bytes {
         [first, others @ ..] if is_lead(*first) => {
-            let ranges = behind_lead(*first);
+            let ranges = after_lead(*first);
             continued(ranges, others)?;
             Ok(bytes.split_at(ranges.len() + 1))
         }
@@ -139,9 +140,9 @@ fn is_lead(byte: u8) -> bool
     matches!(byte, 32..=33 | 35..=91 | 93..=127 | 194..=244)
 }
 
-// The ranges of the bytes behind the first one of a character.
-fn behind_lead(first: u8) -> &'static [(u8, u8)]
-    ensures { result.now ≡ behind_lead first }
+// The ranges of the bytes after the first one of a character.
+fn after_lead(first: u8) -> &'static [(u8, u8)]
+    ensures { result.now ≡ after_lead first }
 {
     match first {
         0..=127 => &[],
@@ -163,13 +164,13 @@ fn continued(ranges: &[(u8, u8)], bytes: &[u8]) -> Result<(), Stop>
         (IsStop (read_continued ranges.now bytes.now)) }
     ensures within { IfOk result (λ _. length ranges.now ≤ length bytes.now) }
 {
-    for (place, range) in ranges.iter().enumerate() {
-        let Some(byte) = bytes.get(place) else {
+    for (offset, range) in ranges.iter().enumerate() {
+        let Some(byte) = bytes.get(offset) else {
             return Err(Stop::Form { left: 0 });
         };
         if *byte < range.0 || range.1 < *byte {
             return Err(Stop::Form {
-                left: bytes.len() - place,
+                left: bytes.len() - offset,
             });
         }
     }

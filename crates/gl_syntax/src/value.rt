@@ -1,8 +1,8 @@
 //! Values.
 
 ghost use Rattle.std.specs.Prelude.{◌≡◌, ◌≤◌, ◌+◌, ◌-◌, ◌∷◌, ◌++◌, [], length, codes, MatchResult, IfOk};
-ghost use Rattle.spec_grammar.specs.Language.{Spell};
-ghost use Rattle.spec_grammar.specs.Reader.{behind};
+ghost use Rattle.spec_syntax.specs.Language.{Spell};
+ghost use Rattle.spec_syntax.specs.Reader.{after_word};
 ghost use Rattle.spec_syntax.specs.Value.{any_value};
 ghost use Rattle.spec_syntax.specs.ValueReader.{read_leaf, read_elements, read_others, read_list, read_nested};
 ghost use Rattle.gl_syntax.specs.Stop.{Reads};
@@ -16,7 +16,7 @@ use std::alloc::{AllocError, Global};
 
 /// The value that the bytes spell, of any depth. It takes memory for the value, goes once over the bytes, and recurses
 /// once a level of nesting: where the bytes come from outside, bound their number by the stack that there is.
-#[tactic(auto, using(spec_syntax::proofs::Verdicts::spelled_all, spec_syntax::proofs::Verdicts::spelled_front, spec_syntax::proofs::Verdicts::spelled_none, spec_syntax::proofs::Verdicts::left_le, spec_syntax::proofs::Verdicts::rest_of,))]
+#[tactic(auto, using(spec_syntax::proofs::Verdicts::spelled_all, spec_syntax::proofs::Verdicts::spelled_prefix, spec_syntax::proofs::Verdicts::spelled_none, spec_syntax::proofs::Verdicts::left_le, spec_syntax::proofs::Verdicts::rest_of,))]
 pub fn read_value(alloc: Global, bytes: &[u8]) -> Result<Value, ReadFault>
     ensures { MatchResult result (Spell any_value bytes.now) (IsFault any_value bytes.now) }
 {
@@ -42,7 +42,7 @@ pub fn fault_at(bytes: &[u8], left: usize) -> ReadFault
     }
 }
 
-/// The value, nested at most so deep, and the bytes behind it.
+/// The value, nested at most so deep, and the bytes after it.
 #[cycle(value)]
 #[tactic(auto, using(spec_syntax::proofs::Enclosed::nested_list, spec_syntax::proofs::Enclosed::nested_leaf, spec_syntax::proofs::Enclosed::nested_flat,))]
 pub fn value_ahead(alloc: Global, depth: usize, bytes: &[u8]) -> Result<(Value, &[u8]), Stop>
@@ -54,7 +54,7 @@ pub fn value_ahead(alloc: Global, depth: usize, bytes: &[u8]) -> Result<(Value, 
     leaf_ahead(alloc, bytes)
 }
 
-// The list of values nested at most so deep, and the bytes behind it.
+// The list of values nested at most so deep, and the bytes after it.
 #[cycle(value)]
 #[tactic(auto, using(spec_syntax::proofs::Enclosed::list_found, spec_syntax::proofs::Enclosed::list_stops, spec_syntax::proofs::Enclosed::list_stops_inside, spec_syntax::proofs::Enclosed::list_stops_last,))]
 fn list_ahead(alloc: Global, depth: usize, bytes: &[u8]) -> Result<(Value, &[u8]), Stop>
@@ -62,8 +62,8 @@ fn list_ahead(alloc: Global, depth: usize, bytes: &[u8]) -> Result<(Value, &[u8]
 {
     let inside = word(b"[", bytes)?;
     let (values, rest) = elements_ahead(alloc, depth, inside)?;
-    let behind = word(b"]", rest)?;
-    Ok((Value::items(values), behind))
+    let after_word = word(b"]", rest)?;
+    Ok((Value::items(values), after_word))
 }
 
 #[cycle(value)]
@@ -79,7 +79,7 @@ pub fn elements_ahead(alloc: Global, depth: usize, bytes: &[u8]) -> Result<(Valu
     others_ahead(alloc, depth, values, rest)
 }
 
-// The elements behind those that there are.
+// The elements after those that there are.
 #[cycle(value)]
 fn others_ahead(
     alloc: Global,
@@ -92,7 +92,7 @@ fn others_ahead(
     let mut values = values;
     let mut rest = bytes;
     'elements: while begins_with(b',', rest) {
-        let (value, others) = behind_comma(alloc, depth, rest)?;
+        let (value, others) = after_comma(alloc, depth, rest)?;
         values = with_value(values, value)?;
         rest = others;
     }
@@ -100,9 +100,9 @@ fn others_ahead(
 }
 
 #[cycle(value)]
-#[tactic(auto, using(spec_grammar::proofs::Joints::behind_on, spec_grammar::proofs::Joints::behind_stops))]
-fn behind_comma(alloc: Global, depth: usize, bytes: &[u8]) -> Result<(Value, &[u8]), Stop>
-    ensures { Reads result (behind (codes ",") (read_nested depth) bytes.now) }
+#[tactic(auto, using(spec_syntax::proofs::Joints::after_on, spec_syntax::proofs::Joints::later_stops))]
+fn after_comma(alloc: Global, depth: usize, bytes: &[u8]) -> Result<(Value, &[u8]), Stop>
+    ensures { Reads result (after_word (codes ",") (read_nested depth) bytes.now) }
 {
     let rest = word(b",", bytes)?;
     value_ahead(alloc, depth, rest)

@@ -4,7 +4,7 @@ use Rattle.spec_value.specs.Tree.{Tree, num}
 use Rattle.gl_testing.specs.declared.change.Row.{Row}
 use Rattle.gl_testing.specs.declared.change.Row.TheVariants.{Keep, Update, Delete, Insert}
 
--- what a row puts into the list before the change, and into the one behind it
+-- what a row puts into the list before the change, and into the one after it
 abbrev pub old_of : Row → List Tree
 old_of (Keep a) = num a ∷ []
 old_of (Update a b) = num a ∷ []

@@ -25,7 +25,7 @@ pub enum Row {
     Insert(i64),
 }
 
-/// A change of a list: the list before it, the list behind it, and the delta that leads from the one to the other.
+/// A change of a list: the list before it, the list after it, and the delta that leads from the one to the other.
 #[derive(Drop)]
 pub struct Change {
     pub before: Values,
@@ -37,7 +37,8 @@ pub struct Change {
 fn push(delta: &mut Delta, cell: Cell) -> Result<(), AllocError>
     requires olds { old_len (pieces_in (cell_of cell)) ≤ 1 }
     requires news { new_len (pieces_in (cell_of cell)) ≤ 1 }
-    ensures { OnOk result (delta.new.pieces ≡ normal (delta.old.pieces ++ pieces_in (cell_of cell))) }
+    ensures { OnOk result
+        (delta.new.pieces ≡ normal (delta.old.pieces ++ pieces_in (cell_of cell))) }
 {
     if delta.old_len() >= 100 || delta.new_len() >= 100 {
         return Err(AllocError);
@@ -59,7 +60,8 @@ fn add(list: &mut Values, n: i64) -> Result<(), AllocError>
 
 fn add_row(change: &mut Change, row: Row) -> Result<(), AllocError>
     requires { IsDelta change.old.delta.pieces change.old.before change.old.after }
-    ensures delta { OnOk result (IsDelta change.new.delta.pieces change.new.before change.new.after) }
+    ensures delta { OnOk result
+        (IsDelta change.new.delta.pieces change.new.before change.new.after) }
     ensures before { OnOk result (change.new.before ≡ change.old.before ++ old_of row) }
     ensures after { OnOk result (change.new.after ≡ change.old.after ++ new_of row) }
 {

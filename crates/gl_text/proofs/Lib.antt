@@ -1,4 +1,5 @@
-pub mod CutLaws
-pub mod NumberLaws
-pub mod DigitLaws
-pub mod BlockLaws
+pub mod RecordRows
+pub mod Passes
+pub mod Progress
+pub mod Whole
+pub mod Texts

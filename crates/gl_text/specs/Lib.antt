@@ -1,1 +1,5 @@
-pub mod Numbers
+pub mod Goes
+pub mod Blocks
+pub mod Spelled
+pub mod Texts
+pub mod Sorts

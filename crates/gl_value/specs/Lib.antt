@@ -3,3 +3,4 @@ pub mod Held
 pub mod Node
 pub mod Falls
 pub mod Shape
+pub use Rattle.spec_value.specs.Tree

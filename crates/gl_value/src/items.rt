@@ -1,6 +1,7 @@
 //! A list that is built by adding at its end.
 
-ghost use Rattle.std.specs.Prelude.{◌≡◌, [], ◌∷◌, ◌++◌, length, IfOk, IfErr, OnOk, OnErr};
+ghost use Rattle.std.specs.Prelude.{◌≡◌, [], ◌∷◌, ◌++◌, length, slice_get, IfOk, IfErr, OnOk, OnErr, MatchOption};
+ghost use Rattle.std.specs.Option.{option_copied};
 
 use std::alloc::{AllocError, Global};
 use std::marker::Model;
@@ -60,6 +61,21 @@ impl<T> Items<T> {
         self.items.as_slice()
     }
 
+    /// The item at an index, `None` where there are no more.
+    pub fn get(&self, index: usize) -> Option<&T>
+        ensures { option_copied result ≡ slice_get self.now index }
+    {
+        self.items.get(index)
+    }
+
+    /// Takes out the last item, `None` where there is none.
+    pub fn pop(&mut self) -> Option<T>
+        ensures { MatchOption result ((self.old ≡ []) × (self.new ≡ []))
+            (λ last. self.old ≡ self.new ++ last ∷ []) }
+    {
+        self.items.pop()
+    }
+
     /// Adds an item at the end. It takes memory where the room is used up; the item is handed back where there is none,
     /// and the list is then as it was.
     pub fn push(&mut self, item: T) -> Result<(), (T, AllocError)>
@@ -70,6 +86,22 @@ impl<T> Items<T> {
         match self.items.push(item) {
             Ok(()) => Ok(()),
             Err(failed) => Err((failed.value, AllocError)),
+        }
+    }
+}
+
+impl<T: Drop> Items<T> {
+    /// Adds an item at the end, as `push` does; the item is given up where there is no memory.
+    pub fn add(&mut self, item: T) -> Result<(), AllocError>
+        ensures ok { OnOk result (self.new ≡ self.old ++ item ∷ []) }
+        ensures err { OnErr result (self.new ≡ self.old) }
+    {
+        match self.items.push(item) {
+            Ok(()) => Ok(()),
+            Err(failed) => {
+                drop(failed);
+                Err(AllocError)
+            }
         }
     }
 }

@@ -5,6 +5,8 @@
 mod bytes;
 pub mod compare;
 pub mod items;
+mod name;
+mod name_order;
 pub mod order;
 pub mod shelf;
 pub mod steps;
@@ -17,6 +19,7 @@ pub mod values;
 pub use bytes::Bytes;
 pub use compare::Compare;
 pub use items::Items;
+pub use name::{Name, spells_name};
 pub use shelf::Shelf;
 pub use std::alloc::AllocError as Memory;
 pub use steps::Steps;

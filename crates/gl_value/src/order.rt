@@ -63,7 +63,7 @@ fn cmp_lists(a: &[Value], b: &[Value]) -> Ordering
 impl PartialEq for Value {
     ghost use Rattle.std.specs.Ordering.{eq_by_cmp};
     ghost use Rattle.std.specs.Cmp.{partial_equiv_from_equiv, eq_by_cmp_equiv};
-    ghost use Rattle.spec_value.proofs.OrderLaws.{cmp_total};
+    ghost use Rattle.spec_value.proofs.Order.{cmp_total};
 
     ghost eq = { eq_by_cmp order.cmp };
 
@@ -76,7 +76,7 @@ impl PartialEq for Value {
 
 impl Eq for Value {
     ghost use Rattle.std.specs.Cmp.{eq_by_cmp_equiv};
-    ghost use Rattle.spec_value.proofs.OrderLaws.{cmp_total};
+    ghost use Rattle.spec_value.proofs.Order.{cmp_total};
 
     ghost laws = { eq_by_cmp_equiv cmp_total };
 }
@@ -84,7 +84,7 @@ impl Eq for Value {
 impl PartialOrd for Value {
     ghost use Rattle.std.specs.Ordering.{as_partial_cmp};
     ghost use Rattle.std.specs.Cmp.{partial_order_from_total};
-    ghost use Rattle.spec_value.proofs.OrderLaws.{cmp_total};
+    ghost use Rattle.spec_value.proofs.Order.{cmp_total};
 
     ghost partial_cmp = { as_partial_cmp order.cmp };
 
@@ -98,7 +98,7 @@ impl PartialOrd for Value {
 // The order is total, and only equal values are `Equal` in it.
 impl Ord for Value {
     ghost use Rattle.std.proofs.Common.{refl};
-    ghost use Rattle.spec_value.proofs.OrderLaws.{cmp_total};
+    ghost use Rattle.spec_value.proofs.Order.{cmp_total};
 
     ghost cmp = { order.cmp };
 

@@ -19,8 +19,8 @@ pub trait Shelf {
         ensures { result ≡ length (items self.now) };
 
     /// The value at a place, or `None` exactly where the place isn't below the length.
-    fn get(&self, place: usize) -> Option<&Value>
-        ensures { option_copied result ≡ slice_get (items self.now) place };
+    fn get(&self, position: usize) -> Option<&Value>
+        ensures { option_copied result ≡ slice_get (items self.now) position };
 }
 
 impl Shelf for &[Value] {
@@ -30,8 +30,8 @@ impl Shelf for &[Value] {
         <[Value]>::len(self)
     }
 
-    fn get(&self, place: usize) -> Option<&Value> {
-        <[Value]>::get(self, place)
+    fn get(&self, position: usize) -> Option<&Value> {
+        <[Value]>::get(self, position)
     }
 }
 
@@ -42,7 +42,7 @@ impl Shelf for Values {
         Values::len(self)
     }
 
-    fn get(&self, place: usize) -> Option<&Value> {
-        self.as_slice().get(place)
+    fn get(&self, position: usize) -> Option<&Value> {
+        self.as_slice().get(position)
     }
 }

@@ -20,8 +20,8 @@ fn nested(alloc: Global, levels: usize) -> Result<Value, AllocError> {
     Ok(value)
 }
 
-fn number_at(list: &[Value], place: usize) -> Option<i64> {
-    match list.get(place)?.shape() {
+fn number_at(list: &[Value], position: usize) -> Option<i64> {
+    match list.get(position)?.shape() {
         ValueShape::Num(n) => Some(n),
         _ => None,
     }

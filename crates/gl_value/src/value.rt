@@ -116,10 +116,10 @@ impl Value {
     }
 
     /// The element of a list at a place, or `None` where there is none.
-    pub fn element(&self, place: usize) -> Option<&Value>
-        ensures { option_copied result ≡ slice_get (elements self.now) place }
+    pub fn element(&self, position: usize) -> Option<&Value>
+        ensures { option_copied result ≡ slice_get (elements self.now) position }
     {
-        self.elements().get(place)
+        self.elements().get(position)
     }
 
     /// An equal value, which costs one step however large the value: both share its texts and lists. It takes no

@@ -4,7 +4,7 @@ use Rattle.gl_graph.specs.declared.graph.GraphUndo.{GraphUndo}
 use Rattle.gl_graph.specs.Nodes.{numbers}
 use Rattle.gl_graph.specs.Graph.{Kept, IsGraph}
 use Rattle.gl_graph.specs.Waves.{Contents, contents, before, HaveRoomOf, IsUndo, CanRetreat}
-use Rattle.gl_graph.proofs.Going.{room_same, room_on, contents_same_graph, undo_carries, undo_numbers, undo_reaches, undo_can}
+use Rattle.gl_graph.proofs.Progress.{room_same, room_on, contents_same_graph, undo_carries, undo_numbers, undo_reaches, undo_can}
 use Rattle.gl_world.specs.Back.{IsChanged, IsLike, Leads, CanGoBack, GoesOn}
 
 pub like_same : (k : Kept) → IsLike k k
@@ -90,7 +90,7 @@ pub goes_like : (undos : List GraphUndo) (old new : Kept) → contents new ≡ c
 goes_like undos old new same room start h = leads_like undos start old new h (record { same = same; room = room })
 
 -- one that made a change whose undo was kept
-pub goes_more : (undos : List GraphUndo) (undo : GraphUndo) (old new : Kept) → IsGraph old.limit old.nodes old.places
+pub goes_more : (undos : List GraphUndo) (undo : GraphUndo) (old new : Kept) → IsGraph old.limit old.nodes old.positions
     → IsUndo undo old new → HaveRoomOf old.nodes new.nodes → GoesOn undos old (undos ++ undo ∷ []) new
 goes_more undos undo old new graph is room start h =
     leads_more undos undo start old new h (record { graph = graph; is = is; room = room })

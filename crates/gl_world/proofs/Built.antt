@@ -2,11 +2,11 @@
 use Rattle.std.proofs.Common.{◌≡◌, zero, suc, true, List, [], ◌∷◌, subst}
 use Rattle.std.specs.List.{list_all}
 use Rattle.std.proofs.lemmas.Bool.{and_parts}
-use Rattle.gl_lines.specs.declared.plan.ListDecl.{ListDecl}
-use Rattle.gl_lines.specs.declared.plan.ListKind.{ListKind}
-use Rattle.gl_lines.specs.declared.plan.ListKind.TheVariants as kinds
-use Rattle.spec_plans.specs.Plan.{Plan}
-use Rattle.spec_plans.specs.Built.{is_built_kind, is_built}
+use Rattle.spec_states.specs.ListDecl.{ListDecl}
+use Rattle.spec_states.specs.ListKind.{ListKind}
+use Rattle.spec_states.specs.ListKind.TheVariants as kinds
+use Rattle.spec_states.specs.Plan.{Plan}
+use Rattle.spec_states.specs.Built.{is_built_kind, is_built}
 use Rattle.spec_runs.proofs.Built.{built_lists}
 use Rattle.gl_graph.specs.Opening.{IsKindBuilt, AreKindsBuilt}
 

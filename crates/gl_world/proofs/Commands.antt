@@ -1,16 +1,16 @@
 -- What one command does to the deltas of a section.
 use Rattle.std.proofs.Common.{◌≡◌, ◌∙◌, ℕ, zero, suc, ◌<◌, List, [], ◌∷◌, length, refl, ap, sym, subst, arith}
 use Rattle.std.specs.Prelude.{Option, Some, None, slice_index_or}
-use Rattle.spec_value.specs.Tree.{Tree}
-use Rattle.spec_lists.specs.Piece.{IsNormal, old_len, new_len}
-use Rattle.spec_lists.specs.Leads.{IsDelta}
-use Rattle.spec_lists.specs.Delta.{Delta, no_change, composed}
-use Rattle.spec_lists.proofs.Lengths.{new_len-identity}
-use Rattle.gl_lines.specs.declared.plan.Command.{Command}
-use Rattle.gl_lines.specs.declared.reply.Reply.{Reply}
-use Rattle.gl_lines.specs.declared.reply.Reply.TheVariants.{Done}
-use Rattle.gl_delta.specs.Told.{Told}
-use Rattle.spec_plans.specs.Plan.{origin as about}
+use Rattle.spec_states.specs.Tree.{Tree}
+use Rattle.spec_states.specs.Piece.{IsNormal, old_len, new_len}
+use Rattle.spec_states.specs.Leads.{IsDelta}
+use Rattle.spec_states.specs.Delta.{Delta, no_change, composed}
+use Rattle.spec_states.proofs.Lengths.{new_len-identity}
+use Rattle.spec_states.specs.Command.{Command}
+use Rattle.spec_states.specs.Reply.{Reply}
+use Rattle.spec_states.specs.Reply.TheVariants.{Done}
+use Rattle.gl_delta.specs.Model.{DeltaModel}
+use Rattle.spec_states.specs.Plan.{origin as about}
 use Rattle.spec_states.specs.State.{State, own_at}
 use Rattle.spec_states.specs.Shown.{Table, shows_in, table_of, shown}
 use Rattle.spec_states.specs.Wave.{Deltas, delta_in, wave, wave_deltas, command as made_by}
@@ -20,7 +20,7 @@ use Rattle.spec_states.proofs.Views.{length-table_of}
 use Rattle.spec_states.proofs.Waves.{step_leads}
 use Rattle.spec_runs.specs.Section.{composed_all}
 use Rattle.spec_runs.proofs.Sections.{old_len_leads, new_len_leads, composed_nothing, nothing_composed, composed_in, then_unchanged}
-use Rattle.spec_runs.proofs.Keeping.{Suits}
+use Rattle.spec_runs.proofs.KeptKinds.{Suits}
 use Rattle.spec_runs.proofs.Steps.{still_deltas}
 use Rattle.gl_graph.specs.Waves.{IsTold, AreTold}
 use Rattle.gl_world.specs.Joined.{IsJoined, AreJoined, Meet, AreMeeting}
@@ -43,7 +43,7 @@ moved_deltas limit s command e = rw e refl
 -- ---- its deltas
 
 -- one that changes nothing leaves the deltas
-pub deltas_still : (limit : ℕ) (s : State) (command : Command) (reply : Reply) (told : List (Option Told))
+pub deltas_still : (limit : ℕ) (s : State) (command : Command) (reply : Reply) (told : List (Option DeltaModel))
     → unmoved limit s command ≡ Some reply → GoOn limit s command told told
 deltas_still limit s command reply told e start deltas lead are =
     let same : composed_all deltas (step limit s command).deltas ≡ deltas =
@@ -51,7 +51,7 @@ deltas_still limit s command reply told e start deltas lead are =
     subst (λ ds. AreDeltas start ds told) (sym same) are
 
 -- what there is of a list, joined with what is told of it
-joined_one : (p q r : Delta) (xs ys zs : List Tree) (a b now : Option Told) → IsDelta p xs ys → IsDelta q ys zs
+joined_one : (p q r : Delta) (xs ys zs : List Tree) (a b now : Option DeltaModel) → IsDelta p xs ys → IsDelta q ys zs
     → IsNormal p → IsNormal q
     → r ≡ composed p q → IsDeltaSofar (length xs) p a → IsTold (length ys) q b → IsJoined a b now
     → IsDeltaSofar (length xs) r now
@@ -69,7 +69,7 @@ joined_one p q r xs ys zs (Some d) (Some e) (Some m) dp dq np nq is ha hb j =
     j ∙ ap (λ x. composed x e.pieces) ha ∙ ap (composed p) hb.0 ∙ sym is
 
 -- one that changes something joins what is told of the lists
-pub deltas_joined : (limit : ℕ) (s : State) (command : Command) (old next new : List (Option Told)) → IsSound s
+pub deltas_joined : (limit : ℕ) (s : State) (command : Command) (old next new : List (Option DeltaModel)) → IsSound s
     → Suits command (own_at s (about command))
     → unmoved limit s command ≡ None → AreTold s command next → AreJoined old next new
     → GoOn limit s command old new
@@ -104,7 +104,7 @@ deltas_joined limit s command old next new sound suits e told joined start delta
 -- ---- where deltas meet
 
 -- a delta stands under a number of the list
-there_within : (told : List (Option Told)) (list : ℕ) (d : Told) → slice_index_or told list None ≡ Some d
+there_within : (told : List (Option DeltaModel)) (list : ℕ) (d : DeltaModel) → slice_index_or told list None ≡ Some d
     → list < length told
 there_within [] list d e = absurd cc
 there_within (t ∷ told) zero d e = omega arith
@@ -112,7 +112,7 @@ there_within (t ∷ told) (suc list) d e = (let low : list < length told = there
     omega (arith, low))
 
 -- deltas lead to what the lists show
-pub reach_of : (start : Table) (deltas : Deltas) (told : List (Option Told)) (s : State)
+pub reach_of : (start : Table) (deltas : Deltas) (told : List (Option DeltaModel)) (s : State)
     → Lead deltas start (table_of s) → AreDeltas start deltas told → Reach told s
 reach_of start deltas told s lead are = record {
   long = are.long ∙ sym lead.same ∙ length-table_of s;
@@ -124,14 +124,14 @@ reach_of start deltas told s lead are = record {
       (lead.each list within);
 }
 
-meets : (q : Delta) (ys zs : List Tree) (a b : Option Told) → IsDelta q ys zs
-    → ((d : Told) → a ≡ Some d → new_len d.pieces ≡ length ys) → IsTold (length ys) q b → Meet a b
+meets : (q : Delta) (ys zs : List Tree) (a b : Option DeltaModel) → IsDelta q ys zs
+    → ((d : DeltaModel) → a ≡ Some d → new_len d.pieces ≡ length ys) → IsTold (length ys) q b → Meet a b
 meets q ys zs None b dq reach told = tt
 meets q ys zs (Some d) None dq reach told = tt
 meets q ys zs (Some d) (Some e) dq reach told = ap old_len told.0 ∙ old_len_leads q ys zs dq ∙ sym (reach d refl)
 
 -- and those of a command lead on from there
-pub are_meeting : (limit : ℕ) (s : State) (command : Command) (old next : List (Option Told)) → IsSound s
+pub are_meeting : (limit : ℕ) (s : State) (command : Command) (old next : List (Option DeltaModel)) → IsSound s
     → Suits command (own_at s (about command)) → unmoved limit s command ≡ None → Reach old s
     → AreTold s command next → AreMeeting old next
 are_meeting limit s command old next sound suits e reach told list within =

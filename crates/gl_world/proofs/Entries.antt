@@ -6,48 +6,49 @@ use Rattle.std.proofs.lemmas.Bool.{cases_eq, ne_eqb}
 use Rattle.std.proofs.lemmas.Bool.Decides.{nat_tests}
 use Rattle.gl_outside.specs.declared.gate.Actor.{Actor}
 use Rattle.gl_outside.specs.declared.gate.Actor.TheVariants.{Writer}
-use Rattle.gl_lines.specs.declared.plan.Command.{Command}
-use Rattle.gl_lines.specs.declared.reply.Reply.{Reply}
-use Rattle.gl_delta.specs.Told.{Told}
-use Rattle.spec_plans.specs.Plan.{Plan, commands_of, sections_of}
-use Rattle.spec_plans.specs.Built.{is_built}
+use Rattle.spec_states.specs.Command.{Command}
+use Rattle.spec_states.specs.Reply.{Reply}
+use Rattle.gl_delta.specs.Model.{DeltaModel}
+use Rattle.spec_states.specs.Plan.{Plan, commands_of, sections_of}
+use Rattle.spec_states.specs.Built.{is_built}
 use Rattle.spec_states.specs.State.{State, own_at}
 use Rattle.spec_states.specs.Shown.{table_of}
 use Rattle.spec_states.specs.Laws.{IsSound}
 use Rattle.spec_states.proofs.Views.{length-table_of}
 use Rattle.spec_runs.specs.Kinds.{IsFor}
 use Rattle.spec_runs.specs.Section.{state_after, replies_to, section_deltas}
-use Rattle.spec_runs.specs.Telling.{Telling as TellingData, tellings, listener_turns}
+use Rattle.spec_runs.specs.Telling.{Telling as TellingData, tellings, listener_dependency_order}
 use Rattle.spec_runs.specs.Entry.{taken_by}
 use Rattle.spec_runs.specs.Fits.{Fits, BadPlace, Reason, reason_at, bad_place_from}
 use Rattle.spec_runs.specs.Run.{run}
 use Rattle.spec_runs.proofs.Runs.{state_more, replies_more, told_more, taken_more}
-use Rattle.spec_runs.proofs.Keeping.{length-state, within_entry_kinds}
-use Rattle.spec_runs.proofs.Ordered.{run_sound, heard_within, well_formed_listeners, listener_turns_below}
-use Rattle.spec_runs.proofs.Suiting.{commands_suit}
+use Rattle.spec_runs.proofs.KeptKinds.{length-state, within_entry_kinds}
+use Rattle.spec_runs.proofs.Ordered.{run_sound, heard_within, well_formed_listeners, listener_order_below}
+use Rattle.spec_runs.proofs.Suits.{commands_suit}
 use Rattle.spec_runs.proofs.Built.{built_state_more}
 use Rattle.gl_graph.specs.Graph.{Kept, state_of}
 use Rattle.gl_graph.specs.Waves.{Contents, contents}
-use Rattle.gl_graph.proofs.Going.{contents_same_state}
+use Rattle.gl_graph.proofs.Progress.{contents_same_state}
 use Rattle.gl_world.specs.declared.telling.Telling.{Telling}
 use Rattle.gl_world.specs.Told.{tellings_of, all_pieces, told_all, IsFresh}
 use Rattle.gl_world.specs.Section.{AreDeltas}
 use Rattle.gl_world.specs.World.{IsWorld}
 use Rattle.gl_world.proofs.Tellings.{told_same}
+use Rattle.spec_runs.proofs.Finish.{may_take}
 
 -- ---- orders that fit
 
 none_some : {X : Type 0} {x : X} → Some x ≡ None → ⊥
 none_some e = absurd cc
 
-fits_behind : (p : Plan) (before rest : List Actor) (a : Actor) → bad_place_from p before rest ≡ None
+fits_after : (p : Plan) (before rest : List Actor) (a : Actor) → bad_place_from p before rest ≡ None
     → reason_at p (before ++ rest) a ≡ None → bad_place_from p before (rest ++ a ∷ []) ≡ None
-fits_behind p before [] a fits none =
+fits_after p before [] a fits none =
     let here : reason_at p before a ≡ None = subst (λ o. reason_at p o a ≡ None) (append-nil before) none in
     rw here refl
-fits_behind p before (b ∷ rest) a fits none =
+fits_after p before (b ∷ rest) a fits none =
     by_reason (reason_at p before b) refl
-    (λ left. fits_behind p (before ++ b ∷ []) rest a left
+    (λ left. fits_after p (before ++ b ∷ []) rest a left
     (subst (λ o. reason_at p o a ≡ None) (sym (append_assoc before (b ∷ []) rest)) none))
   where
     by_reason : (r : Option Reason) → reason_at p before b ≡ r
@@ -58,15 +59,7 @@ fits_behind p before (b ∷ rest) a fits none =
 
 pub fits_more : (p : Plan) (order : List Actor) (a : Actor) → Fits p order → reason_at p order a ≡ None
     → Fits p (order ++ a ∷ [])
-fits_more p order a fits none = fits_behind p [] order a fits none
-
--- a writer that has a section left may take it
-pub writer_fits : (p : Plan) (order : List Actor) (w : ℕ) → w < length p.writers
-    → taken_by w order < length (sections_of p w) → reason_at p order (Writer w) ≡ None
-writer_fits p order w there left =
-    let known : nat_lt w (length p.writers) ≡ true = grind (arith, nat_tests) in
-    let some : nat_lt (taken_by w order) (length (sections_of p w)) ≡ true = grind (arith, nat_tests) in
-    rw (known, some) refl
+fits_more p order a fits none = fits_after p [] order a fits none
 
 -- ---- the counters
 
@@ -121,7 +114,7 @@ world_more i new mine all more w section world there section_is left limit state
       whole = world.whole;
       built = world.built;
       fits = fits_more p order (Writer w) world.fits
-          (writer_fits p order w there (subst (λ n. n < length (sections_of p w)) section_is left));
+          (may_take p order w there (subst (λ n. n < length (sections_of p w)) section_is left));
       state = state_is ∙ rw (section_is, world.limit, world.state) (sym (built_state_more p order w world.built));
       limit = limit ∙ world.limit;
       answers = rw (mine_is, section_is, world.limit, world.state, world.answers) (sym (replies_more p order (Writer w)));
@@ -172,17 +165,17 @@ world_heard i world =
     subst (λ n. AllByRecursion (λ d. d.list < n) i.plan.listeners)
     (sym (length-table_of (state_of i.graph) ∙ world_lists i world)) (heard_within i.plan world.whole.formed)
 
-pub world_turns : (i : Inside) → Stands i
-    → AllByRecursion (λ k. k < length i.plan.listeners) (listener_turns i.plan)
-world_turns i world =
-    listener_turns_below i.plan (well_formed_listeners i.plan world.whole.formed world.whole.acyclic)
+pub world_order : (i : Inside) → Stands i
+    → AllByRecursion (λ k. k < length i.plan.listeners) (listener_dependency_order i.plan)
+world_order i world =
+    listener_order_below i.plan (well_formed_listeners i.plan world.whole.formed world.whole.acyclic)
 
 -- what was told is what the definitions say
-pub world_told : (i : Inside) (commands : List Command) (deltas : List (Option Told)) → Stands i
+pub world_told : (i : Inside) (commands : List Command) (deltas : List (Option DeltaModel)) → Stands i
     → AreDeltas (table_of (state_of i.graph)) (section_deltas i.graph.limit (state_of i.graph) commands) deltas
-    → told_all i.plan.listeners (length i.order) (all_pieces deltas) (listener_turns i.plan)
+    → told_all i.plan.listeners (length i.order) (all_pieces deltas) (listener_dependency_order i.plan)
     ≡ tellings i.plan (length i.order) (section_deltas i.graph.limit (state_of i.graph) commands)
 world_told i commands deltas world are =
     let s : State = state_of i.graph in
     told_same i.plan.listeners (length i.order) (table_of s) (section_deltas i.graph.limit s commands) deltas
-    (listener_turns i.plan) are (world_heard i world)
+    (listener_dependency_order i.plan) are (world_heard i world)

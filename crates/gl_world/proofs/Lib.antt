@@ -1,7 +1,7 @@
-pub mod Suiting
+pub mod Suits
 pub mod Backs
-pub mod Showing
-pub mod Joining
+pub mod Shown
+pub mod JoinedDeltas
 pub mod Commands
 pub mod Sections
 pub mod Tellings

@@ -3,9 +3,9 @@ use Rattle.std.proofs.Common.{◌≡◌, ◌∙◌, ℕ, zero, suc, ◌+◌, ◌
 use Rattle.std.specs.Prelude.{Option, None, slice_index_or}
 use Rattle.std.specs.List.{AllByRecursion}
 use Rattle.std.proofs.lemmas.List.{length-replicate}
-use Rattle.gl_lines.specs.declared.plan.Command.{Command}
-use Rattle.gl_lines.specs.declared.reply.Reply.{Reply}
-use Rattle.gl_delta.specs.Told.{Told}
+use Rattle.spec_states.specs.Command.{Command}
+use Rattle.spec_states.specs.Reply.{Reply}
+use Rattle.gl_delta.specs.Model.{DeltaModel}
 use Rattle.spec_states.specs.State.{State}
 use Rattle.spec_states.specs.Shown.{shows_in, table_of}
 use Rattle.spec_states.specs.Wave.{delta_in, unchanged}
@@ -17,31 +17,27 @@ use Rattle.spec_runs.specs.Kinds.{IsFor}
 use Rattle.spec_runs.specs.Section.{state_after, replies_to, section_deltas, composed_all}
 use Rattle.spec_runs.proofs.Sections.{section_leads, after_sound}
 use Rattle.spec_runs.proofs.Steps.{state_push, replies_push, deltas_push}
-use Rattle.spec_runs.proofs.Keeping.{after_keeps}
-use Rattle.spec_runs.proofs.Suiting.{for_kept, all_suit}
+use Rattle.spec_runs.proofs.KeptKinds.{after_keeps}
+use Rattle.spec_runs.proofs.Suits.{for_kept, all_suit}
 use Rattle.gl_graph.specs.declared.graph.GraphUndo.{GraphUndo}
 use Rattle.gl_graph.specs.Graph.{Kept, state_of}
 use Rattle.gl_world.specs.Back.{Leads, GoesOn}
 use Rattle.gl_world.specs.Section.{IsDeltaSofar, AreDeltas, Reach, GoOn}
 use Rattle.gl_world.proofs.Backs.{like_same}
 use Rattle.gl_world.proofs.Commands.{reach_of}
+use Rattle.spec_states.proofs.Lists.{replicate_at}
 
 -- these commands were taken from a graph on
 pub record AreTaken (start : Kept) (commands : List Command) (now : Kept) (replies : List Reply)
-    (told : List (Option Told)) (undos : List GraphUndo) : Type 0 where
+    (told : List (Option DeltaModel)) (undos : List GraphUndo) : Type 0 where
   pub limit : now.limit ≡ start.limit
   pub state : state_of now ≡ state_after start.limit (state_of start) commands
   pub replies_are : replies ≡ replies_to start.limit (state_of start) commands
   pub told_are : AreDeltas (table_of (state_of start)) (section_deltas start.limit (state_of start) commands) told
   pub back : Leads undos start now
 
-nothing_there : {X : Type 0} (x : X) (n list : ℕ) → slice_index_or (replicate n x) list x ≡ x
-nothing_there x zero list = refl
-nothing_there x (suc n) zero = refl
-nothing_there x (suc n) (suc list) = nothing_there x n list
-
 -- none yet
-pub taken_none : (start : Kept) (replies : List Reply) (told : List (Option Told)) (undos : List GraphUndo) (lists : ℕ)
+pub taken_none : (start : Kept) (replies : List Reply) (told : List (Option DeltaModel)) (undos : List GraphUndo) (lists : ℕ)
     → replies ≡ [] → told ≡ replicate lists None → undos ≡ [] → lists ≡ length (state_of start)
     → AreTaken start [] start replies told undos
 taken_none start replies told undos lists none is empty many = record {
@@ -53,7 +49,7 @@ taken_none start replies told undos lists none is empty many = record {
     each = λ list within.
         subst (IsDeltaSofar (length (shows_in (table_of (state_of start)) list))
         (delta_in (unchanged (table_of (state_of start))) list))
-        (sym (ap (λ xs. slice_index_or xs list None) is ∙ nothing_there None lists list))
+        (sym (ap (λ xs. slice_index_or xs list None) is ∙ replicate_at None lists list))
         (unchanged_at (table_of (state_of start)) list within);
   };
   back = subst (λ us. Leads us start start) (sym empty) (like_same start);
@@ -62,7 +58,7 @@ taken_none start replies told undos lists none is empty many = record {
 -- one more
 pub taken_more : (start : Kept) (commands all : List Command) (command : Command) (now next : Kept)
     (replies more : List Reply)
-    (told after : List (Option Told)) (undos back : List GraphUndo) → IsSound (state_of start)
+    (told after : List (Option DeltaModel)) (undos back : List GraphUndo) → IsSound (state_of start)
     → AllByRecursion (λ c. IsFor c (state_of start)) commands → AreTaken start commands now replies told undos → all ≡ commands ++ command ∷ []
     → next.limit ≡ now.limit → state_of next ≡ (step now.limit (state_of now) command).state
     → more ≡ replies ++ (step now.limit (state_of now) command).reply ∷ []
@@ -104,7 +100,7 @@ taken_more start commands all command now next replies more told after undos bac
 
 -- what the next command needs
 pub taken_reach : (start : Kept) (commands : List Command) (now : Kept) (replies : List Reply)
-    (told : List (Option Told))
+    (told : List (Option DeltaModel))
     (undos : List GraphUndo) → IsSound (state_of start) → AllByRecursion (λ c. IsFor c (state_of start)) commands
     → AreTaken start commands now replies told undos → Reach told (state_of now)
 taken_reach start commands now replies told undos sound suits h =
@@ -115,7 +111,7 @@ taken_reach start commands now replies told undos sound suits h =
 
 -- the state stays sound
 pub taken_sound : (start : Kept) (commands : List Command) (now : Kept) (replies : List Reply)
-    (told : List (Option Told)) (undos : List GraphUndo) → IsSound (state_of start)
+    (told : List (Option DeltaModel)) (undos : List GraphUndo) → IsSound (state_of start)
     → AllByRecursion (λ c. IsFor c (state_of start)) commands → AreTaken start commands now replies told undos
     → IsSound (state_of now)
 taken_sound start commands now replies told undos sound suits h =
@@ -130,7 +126,7 @@ all_before P (x ∷ xs) zero h = tt
 all_before P (x ∷ xs) (suc k) h = (h.0, all_before P xs k h.1)
 
 pub taken_for : (start : Kept) (commands : List Command) (command : Command) (now : Kept) (replies : List Reply)
-    (told : List (Option Told)) (undos : List GraphUndo) → AreTaken start commands now replies told undos
+    (told : List (Option DeltaModel)) (undos : List GraphUndo) → AreTaken start commands now replies told undos
     → IsFor command (state_of start) → IsFor command (state_of now)
 taken_for start commands command now replies told undos h is =
     let s : State = state_of start in
@@ -138,7 +134,7 @@ taken_for start commands command now replies told undos h is =
     (for_kept s (state_after start.limit s commands) command (after_keeps start.limit s commands) is)
 
 pub taken_long : (start : Kept) (commands : List Command) (now : Kept) (replies : List Reply)
-    (told : List (Option Told)) (undos : List GraphUndo) → AreTaken start commands now replies told undos
+    (told : List (Option DeltaModel)) (undos : List GraphUndo) → AreTaken start commands now replies told undos
     → length (state_of now) ≡ length (state_of start)
 taken_long start commands now replies told undos h =
     ap length h.state ∙ (after_keeps start.limit (state_of start) commands).long

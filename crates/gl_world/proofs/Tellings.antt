@@ -5,11 +5,11 @@ use Rattle.std.specs.List.{AllByRecursion}
 use Rattle.std.proofs.lemmas.Bool.{ne_eqb}
 use Rattle.std.proofs.lemmas.List.{map-append}
 use Rattle.std.proofs.lemmas.List.Elements.{All-append, All-cons, All-nil}
-use Rattle.spec_lists.specs.Delta.{Delta, no_change}
-use Rattle.spec_lists.specs.Changes.{changed_len}
-use Rattle.spec_lists.proofs.Counting.{changed_len-identity}
-use Rattle.gl_lines.specs.declared.plan.ListenerDecl.{ListenerDecl}
-use Rattle.gl_delta.specs.Told.{Told}
+use Rattle.spec_states.specs.Delta.{Delta, no_change}
+use Rattle.spec_states.specs.Changes.{changed_len}
+use Rattle.spec_states.proofs.ChangeCounts.{changed_len-identity}
+use Rattle.spec_states.specs.ListenerDecl.{ListenerDecl}
+use Rattle.gl_delta.specs.Model.{DeltaModel}
 use Rattle.spec_states.specs.Shown.{Table, shows_in}
 use Rattle.spec_states.specs.Wave.{Deltas, delta_in}
 use Rattle.spec_runs.specs.Telling.{Telling as TellingData, attempts, telling_of, told_one}
@@ -25,7 +25,7 @@ get_is [] k x within is = absurd (omega (arith, within))
 get_is (y ∷ xs) zero x within is = ap Some (sym is)
 get_is (y ∷ xs) (suc k) x within is = get_is xs k x (omega (arith, within)) is
 
-pieces_at : (told : List (Option Told)) (list : ℕ) → delta_in (all_pieces told) list
+pieces_at : (told : List (Option DeltaModel)) (list : ℕ) → delta_in (all_pieces told) list
     ≡ pieces_of (slice_index_or told list None)
 pieces_at [] list = refl
 pieces_at (d ∷ told) zero = refl
@@ -38,7 +38,7 @@ told_its : (listeners : List ListenerDecl) (place : ℕ) (deltas : Deltas) (k : 
 told_its listeners place deltas k d within is = rw (get_is listeners k d within is) refl
 
 -- nothing where nothing is told of the list
-pub told_nothing : (listeners : List ListenerDecl) (place : ℕ) (told : List (Option Told)) (k : ℕ) (d : ListenerDecl)
+pub told_nothing : (listeners : List ListenerDecl) (place : ℕ) (told : List (Option DeltaModel)) (k : ℕ) (d : ListenerDecl)
     (sofar : List TellingData) → k < length listeners → d ≡ get_or listeners k d
     → None ≡ slice_index_or told d.list None → sofar ≡ sofar ++ told_one listeners place (all_pieces told) k
 told_nothing listeners place told k d sofar within is none =
@@ -48,8 +48,8 @@ told_nothing listeners place told k d sofar within is none =
     ∙ append-nil sofar)
 
 -- else that delta
-pub told_delta : (listeners : List ListenerDecl) (place : ℕ) (told : List (Option Told)) (k : ℕ) (d : ListenerDecl)
-    (delta : Told) (sofar after : List TellingData) → k < length listeners → d ≡ get_or listeners k d
+pub told_delta : (listeners : List ListenerDecl) (place : ℕ) (told : List (Option DeltaModel)) (k : ℕ) (d : ListenerDecl)
+    (delta : DeltaModel) (sofar after : List TellingData) → k < length listeners → d ≡ get_or listeners k d
     → Some delta ≡ slice_index_or told d.list None → after ≡ sofar ++ telling_of place k d.echo delta.pieces
     → after ≡ sofar ++ told_one listeners place (all_pieces told) k
 told_delta listeners place told k d delta sofar after within is some added =
@@ -69,14 +69,14 @@ told_identity place k echo delta sofar none =
 pub told_change : (place k : ℕ) (echo : Bool) (delta : Delta) (ts : List Telling) (t : Telling) → changed_len delta ≢ 0
     → t.listener ≡ k → t.place ≡ place → t.event.pieces ≡ delta → t.write_backs ≡ attempts echo
     → tellings_of (ts ++ t ∷ []) ≡ tellings_of ts ++ telling_of place k echo delta
-told_change place k echo delta ts t some listener_is place_is delta_is backs_is =
+told_change place k echo delta ts t some listener_is position_is delta_is backs_is =
     let told : telling_of place k echo delta
     ≡ record { listener = k; place = place; delta = delta; write_backs = attempts echo } ∷ [] =
     rw (ne_eqb (changed_len delta) 0 some) refl in
     map-append telling_data ts (t ∷ []) ∙ ap (λ us. tellings_of ts ++ us) (same ∙ sym told)
   where
     same : telling_data t ∷ [] ≡ record { listener = k; place = place; delta = delta; write_backs = attempts echo } ∷ []
-    same = rw (← listener_is, ← place_is, ← delta_is, ← backs_is) refl
+    same = rw (← listener_is, ← position_is, ← delta_is, ← backs_is) refl
 
 -- and what it is told stands with what was told before, none of it given yet
 pub fresh_more : (ts : List Telling) (t : Telling) → All IsFresh ts → t.event.given ≡ 0 → All IsFresh (ts ++ t ∷ [])
@@ -92,7 +92,7 @@ list_within (l ∷ ls) n (suc k) d on within is = list_within ls n k d on.1 (ome
 
 -- ---- all of them
 
-telling_same : (place k n : ℕ) (echo : Bool) (delta : Delta) (a : Option Told) → IsDeltaSofar n delta a
+telling_same : (place k n : ℕ) (echo : Bool) (delta : Delta) (a : Option DeltaModel) → IsDeltaSofar n delta a
     → telling_of place k echo (pieces_of a) ≡ telling_of place k echo delta
 telling_same place k n echo delta None is =
     let told : telling_of place k echo (no_change n) ≡ [] =
@@ -101,7 +101,7 @@ telling_same place k n echo delta None is =
 telling_same place k n echo delta (Some d) is = ap (telling_of place k echo) is
 
 -- a listener is told the same of all deltas that stand for the same
-one_same : (listeners : List ListenerDecl) (place : ℕ) (start : Table) (deltas : Deltas) (told : List (Option Told))
+one_same : (listeners : List ListenerDecl) (place : ℕ) (start : Table) (deltas : Deltas) (told : List (Option DeltaModel))
     (k : ℕ)
     → AreDeltas start deltas told → AllByRecursion (λ d. d.list < length start) listeners
     → told_one listeners place (all_pieces told) k ≡ told_one listeners place deltas k
@@ -119,17 +119,17 @@ one_same listeners place start deltas told k are on = by_decl (slice_get listene
     by_decl : (a : Option ListenerDecl) → slice_get listeners k ≡ a
         → told_one listeners place (all_pieces told) k ≡ told_one listeners place deltas k
     by_decl None e = rw e refl
-    by_decl (Some d) e = rw e (same d (at_place listeners k d e on))
+    by_decl (Some d) e = rw e (same d (at_position listeners k d e on))
       where
-        at_place : (ls : List ListenerDecl) (j : ℕ) (l : ListenerDecl) → slice_get ls j ≡ Some l
+        at_position : (ls : List ListenerDecl) (j : ℕ) (l : ListenerDecl) → slice_get ls j ≡ Some l
             → AllByRecursion (λ m. m.list < length start) ls → l.list < length start
-        at_place [] j l is all = absurd cc
-        at_place (m ∷ ls) zero l is all = (let first : m ≡ l = cc in
+        at_position [] j l is all = absurd cc
+        at_position (m ∷ ls) zero l is all = (let first : m ≡ l = cc in
             subst (λ (x : ListenerDecl). x.list < length start) first all.0)
-        at_place (m ∷ ls) (suc j) l is all = at_place ls j l is all.1
+        at_position (m ∷ ls) (suc j) l is all = at_position ls j l is all.1
 
 pub told_same : (listeners : List ListenerDecl) (place : ℕ) (start : Table) (deltas : Deltas)
-    (told : List (Option Told))
+    (told : List (Option DeltaModel))
     (turn : List ℕ) → AreDeltas start deltas told → AllByRecursion (λ d. d.list < length start) listeners
     → told_all listeners place (all_pieces told) turn ≡ told_all listeners place deltas turn
 told_same listeners place start deltas told [] are on = refl

@@ -6,7 +6,7 @@ use Rattle.gl_graph.specs.Waves.{contents, HaveRoomOf, IsUndo}
 
 -- a graph changed, this is the undo, and no room was lost
 pub record IsChanged (undo : GraphUndo) (old new : Kept) : Type 0 where
-  pub graph : IsGraph old.limit old.nodes old.places
+  pub graph : IsGraph old.limit old.nodes old.positions
   pub is : IsUndo undo old new
   pub room : HaveRoomOf old.nodes new.nodes
 

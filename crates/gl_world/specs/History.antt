@@ -1,6 +1,6 @@
 -- What a world is to its callers.
 use Rattle.std.specs.Prelude.{◌++◌, ◌∷◌, [], List}
-use Rattle.spec_plans.specs.Plan.{Plan}
+use Rattle.spec_states.specs.Plan.{Plan}
 use Rattle.gl_outside.specs.declared.gate.Actor.{Actor}
 
 -- a plan, and the order of the entries that were made of it

@@ -1,8 +1,8 @@
 -- The tellings of a world, as the definitions have them.
 use Rattle.std.specs.Prelude.{◌≡◌, ℕ, List, [], map, flat_map, Option, Some, None}
-use Rattle.spec_lists.specs.Delta.{Delta}
-use Rattle.gl_lines.specs.declared.plan.ListenerDecl.{ListenerDecl}
-use Rattle.gl_delta.specs.Told.{Told}
+use Rattle.spec_states.specs.Delta.{Delta}
+use Rattle.spec_states.specs.ListenerDecl.{ListenerDecl}
+use Rattle.gl_delta.specs.Model.{DeltaModel}
 use Rattle.spec_states.specs.Wave.{Deltas}
 use Rattle.spec_runs.specs.Telling.{Telling as TellingData, told_one}
 use Rattle.gl_world.specs.declared.telling.Telling.{Telling}
@@ -24,11 +24,11 @@ abbrev pub IsFresh : Telling → Type 0
 IsFresh t = t.event.given ≡ 0
 
 -- the pieces of a delta that is there; without one there are none
-abbrev pub pieces_of : Option Told → Delta
+abbrev pub pieces_of : Option DeltaModel → Delta
 pieces_of None = []
 pieces_of (Some d) = d.pieces
 
-abbrev pub all_pieces : List (Option Told) → Deltas
+abbrev pub all_pieces : List (Option DeltaModel) → Deltas
 all_pieces told = map pieces_of told
 
 -- what these listeners are told, one after another

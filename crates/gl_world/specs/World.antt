@@ -2,9 +2,9 @@
 use Rattle.std.specs.Prelude.{◌≡◌, ◌<◌, ℕ, true, List, length, slice_index, All}
 use Rattle.gl_plan.specs.Whole.{IsWhole}
 use Rattle.gl_outside.specs.declared.gate.Actor.{Actor}
-use Rattle.gl_lines.specs.declared.reply.Reply.{Reply}
-use Rattle.spec_plans.specs.Plan.{Plan}
-use Rattle.spec_plans.specs.Built.{is_built}
+use Rattle.spec_states.specs.Reply.{Reply}
+use Rattle.spec_states.specs.Plan.{Plan}
+use Rattle.spec_states.specs.Built.{is_built}
 use Rattle.spec_runs.specs.Entry.{taken_by}
 use Rattle.spec_runs.specs.Run.{run}
 use Rattle.spec_runs.specs.Fits.{Fits}
@@ -12,7 +12,8 @@ use Rattle.gl_graph.specs.Graph.{Kept, state_of}
 use Rattle.gl_world.specs.declared.telling.Telling.{Telling}
 use Rattle.gl_world.specs.Told.{tellings_of, IsFresh}
 
-pub record IsWorld (p : Plan) (order : List Actor) (graph : Kept) (replies : List (List Reply)) (told : List Telling)
+pub record IsWorld (p : Plan) (order : List Actor) (graph : Kept) (replies : List (List Reply))
+    (told : List Telling)
     (taken : List ℕ) : Type 0 where
   pub whole : IsWhole p
   pub built : is_built p ≡ true

@@ -11,14 +11,15 @@ use gl_value::Memory;
 /// Takes back the changes whose undos these are, the last one first. It takes no memory.
 pub(crate) fn retreat_all(graph: &mut Graph, mut undos: Vec<GraphUndo>)
     requires { CanGoBack undos.items graph.old }
-    ensures { (start : Kept) → Leads undos.items start graph.old → contents graph.new ≡ contents start }
+    ensures { (start : Kept) → Leads undos.items start graph.old
+        → contents graph.new ≡ contents start }
 {
     'undos: while let Some(undo) = undos.pop() {
         graph.retreat(undo);
     }
 }
 
-/// Keeps the undo of the graph's last change behind others; where there is no memory for it, the change is taken back.
+/// Keeps the undo of the graph's last change after others; where there is no memory for it, the change is taken back.
 pub(crate) fn keep(
     graph: &mut Graph,
     undos: &mut Vec<GraphUndo>,

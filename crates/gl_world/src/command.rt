@@ -13,13 +13,13 @@ use crate::joined::join_all;
 use crate::show::show;
 use gl_delta::Deltas;
 use gl_graph::{Graph, GraphUndo, Refused, Wave};
-use gl_lines::{Command, Reply};
+use gl_plan::{Command, Reply};
 use gl_value::{Memory, Steps};
 use std::alloc::Global;
 use std::sync::ledger::Ledger;
 
 /// Takes a command of a section, and answers it. Its deltas are composed with those of the commands before it, and its
-/// undo stands behind theirs, also after an `Err`.
+/// undo stands after theirs, also after an `Err`.
 pub(crate) fn take<L: Ledger>(
     alloc: Global,
     graph: &mut Graph,
@@ -35,9 +35,12 @@ pub(crate) fn take<L: Ledger>(
     requires deltas { Reach deltas.old (state_of graph.old) }
     ensures limit { graph.new.limit ≡ graph.old.limit }
     ensures back { GoesOn undos.old.items graph.old undos.new.items graph.new }
-    ensures state { OnOk result (state_of graph.new ≡ (step graph.old.limit (state_of graph.old) command.now).state) }
-    ensures reply { IfOk result (λ reply. reply ≡ (step graph.old.limit (state_of graph.old) command.now).reply) }
-    ensures told { OnOk result (GoOn graph.old.limit (state_of graph.old) command.now deltas.old deltas.new) }
+    ensures state { OnOk result
+        (state_of graph.new ≡ (step graph.old.limit (state_of graph.old) command.now).state) }
+    ensures reply { IfOk result
+        (λ reply. reply ≡ (step graph.old.limit (state_of graph.old) command.now).reply) }
+    ensures told { OnOk result
+        (GoOn graph.old.limit (state_of graph.old) command.now deltas.old deltas.new) }
 {
     match command {
         Command::Show { list } => {
@@ -64,9 +67,12 @@ fn change<L: Ledger>(
     requires deltas { Reach deltas.old (state_of graph.old) }
     ensures limit { graph.new.limit ≡ graph.old.limit }
     ensures back { GoesOn undos.old.items graph.old undos.new.items graph.new }
-    ensures state { OnOk result (state_of graph.new ≡ (step graph.old.limit (state_of graph.old) command.now).state) }
-    ensures reply { IfOk result (λ reply. reply ≡ (step graph.old.limit (state_of graph.old) command.now).reply) }
-    ensures told { OnOk result (GoOn graph.old.limit (state_of graph.old) command.now deltas.old deltas.new) }
+    ensures state { OnOk result
+        (state_of graph.new ≡ (step graph.old.limit (state_of graph.old) command.now).state) }
+    ensures reply { IfOk result
+        (λ reply. reply ≡ (step graph.old.limit (state_of graph.old) command.now).reply) }
+    ensures told { OnOk result
+        (GoOn graph.old.limit (state_of graph.old) command.now deltas.old deltas.new) }
 {
     graph.law();
     match graph.wave(command, steps) {

@@ -21,7 +21,7 @@ pub(crate) fn join_all(sofar: &mut Deltas, mut next: Deltas, lists: u32) -> Resu
 }
 
 // Composes those of one list.
-#[tactic(auto, using(crate::proofs::Joining::joined_none, crate::proofs::Joining::joined_some))]
+#[tactic(auto, using(crate::proofs::JoinedDeltas::joined_none, crate::proofs::JoinedDeltas::joined_some))]
 fn join(sofar: &mut Deltas, next: &mut Deltas, list: u32) -> Result<(), Memory>
     requires sofar { list < length sofar.old }
     requires next { list < length next.old }
@@ -35,7 +35,7 @@ fn join(sofar: &mut Deltas, next: &mut Deltas, list: u32) -> Result<(), Memory>
 }
 
 // Composes the delta of a list so far, if there is one, with the next one.
-#[tactic(auto, using(crate::proofs::Joining::put_first, crate::proofs::Joining::put_joined))]
+#[tactic(auto, using(crate::proofs::JoinedDeltas::put_first, crate::proofs::JoinedDeltas::put_joined))]
 fn join_one(sofar: &mut Deltas, next: Delta, list: u32) -> Result<(), Memory>
     requires sofar { list < length sofar.old }
     requires meet { Meet (slice_index_or sofar.old list None) (Some next) }

@@ -15,8 +15,8 @@ mod world;
 
 pub use gl_event::Event;
 pub use gl_graph::BuildFault;
-pub use gl_lines::Reply;
 pub use gl_outside::Actor;
+pub use gl_plan::Reply;
 pub use next::{Next, Spent};
 pub use telling::Telling;
 pub use world::{RunName, World};

@@ -6,10 +6,9 @@ ghost use Rattle.gl_world.specs.Told.{tellings_of, told_all, all_pieces, IsFresh
 
 use crate::telling::{Telling, tellings};
 use gl_delta::Deltas;
-use gl_lines::{ListenerDecl, Reply};
 use gl_outside::Actor;
-use gl_value::Memory;
-use sqlite_items::Items;
+use gl_plan::{ListenerDecl, Reply};
+use gl_value::{Items, Memory};
 use std::alloc::Global;
 
 /// The actors of the entries, their replies, and all tellings in the order told.
@@ -49,9 +48,11 @@ impl Log {
         requires known { AllByRecursion (λ k. k < length listeners.now) turn.now }
         ensures order { OnOk result (self.new.order.items ≡ self.old.order.items ++ actor ∷ []) }
         ensures replies { OnOk result (self.new.replies ≡ self.old.replies ++ replies ∷ []) }
-        ensures told { OnOk result (tellings_of self.new.told.items ≡ tellings_of self.old.told.items
+        ensures told { OnOk result
+            (tellings_of self.new.told.items ≡ tellings_of self.old.told.items
             ++ told_all listeners.now (length self.old.order.items) (all_pieces deltas.now) turn.now) }
-        ensures fresh { All IsFresh self.old.told.items → OnOk result (All IsFresh self.new.told.items) }
+        ensures fresh { All IsFresh self.old.told.items
+            → OnOk result (All IsFresh self.new.told.items) }
         ensures same_order { OnErr result (self.new.order.items ≡ self.old.order.items) }
         ensures same_replies { OnErr result (self.new.replies ≡ self.old.replies) }
         ensures same_told { OnErr result (self.new.told.items ≡ self.old.told.items) }
@@ -75,7 +76,7 @@ impl Log {
         ensures same_told { OnErr result (self.new.told.items ≡ self.old.told.items) }
     {
         self.order.push(actor)?;
-        if self.replies.push(replies).is_err() {
+        if self.replies.add(replies).is_err() {
             self.order.pop();
             return Err(Memory);
         }

@@ -16,9 +16,8 @@ use crate::back::retreat_all;
 use crate::command::take;
 use gl_delta::Deltas;
 use gl_graph::{Graph, GraphUndo};
-use gl_lines::{Command, Reply};
-use gl_value::{Memory, Steps};
-use sqlite_items::Items;
+use gl_plan::{Command, Reply};
+use gl_value::{Items, Memory, Steps};
 use std::alloc::Global;
 use std::sync::ledger::Ledger;
 
@@ -42,7 +41,8 @@ pub(crate) fn take_all<L: Ledger>(
     requires sound { IsSound (state_of graph.old) }
     requires suits { AllByRecursion (λ c. IsFor c (state_of graph.old)) commands.now }
     ensures limit { graph.new.limit ≡ graph.old.limit }
-    ensures state { OnOk result (state_of graph.new ≡ state_after graph.old.limit (state_of graph.old) commands.now) }
+    ensures state { OnOk result
+        (state_of graph.new ≡ state_after graph.old.limit (state_of graph.old) commands.now) }
     ensures replies { IfOk result (λ taken. taken.replies
         ≡ replies_to graph.old.limit (state_of graph.old) commands.now) }
     ensures told { IfOk result (λ taken. AreDeltas (table_of (state_of graph.old))
@@ -82,7 +82,8 @@ fn take_next<L: Ledger>(
     requires deltas { Reach taken.old.deltas (state_of graph.old) }
     ensures limit { graph.new.limit ≡ graph.old.limit }
     ensures back { GoesOn taken.old.undos.items graph.old taken.new.undos.items graph.new }
-    ensures state { OnOk result (state_of graph.new ≡ (step graph.old.limit (state_of graph.old) command.now).state) }
+    ensures state { OnOk result
+        (state_of graph.new ≡ (step graph.old.limit (state_of graph.old) command.now).state) }
     ensures replies { OnOk result (taken.new.replies
         ≡ taken.old.replies ++ (step graph.old.limit (state_of graph.old) command.now).reply ∷ []) }
     ensures told { OnOk result (GoOn graph.old.limit (state_of graph.old) command.now
@@ -97,6 +98,6 @@ fn take_next<L: Ledger>(
         command,
         steps,
     )?;
-    taken.replies.push(reply)?;
+    taken.replies.add(reply)?;
     Ok(())
 }

@@ -19,7 +19,7 @@ pub(crate) fn show(alloc: Global, graph: &Graph, list: u32) -> Result<Values, Me
     Ok(values)
 }
 
-// Adds the value at a place behind those before it.
+// Adds the value at a place after those before it.
 fn show_one(graph: &Graph, list: u32, place: usize, values: &mut Values) -> Result<(), Memory>
     requires within { place < length (shown (state_of graph.now) list) }
     requires before { values.old ≡ take place (shown (state_of graph.now) list) }

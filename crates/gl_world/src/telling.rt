@@ -7,7 +7,7 @@ ghost use Rattle.gl_world.specs.Told.{tellings_of, told_all, all_pieces, IsFresh
 
 use gl_delta::{Delta, Deltas};
 use gl_event::Event;
-use gl_lines::ListenerDecl;
+use gl_plan::ListenerDecl;
 use gl_value::Memory;
 use std::alloc::Global;
 

@@ -5,10 +5,10 @@ ghost use Rattle.std.specs.Option.{option_copied};
 ghost use Rattle.spec_states.specs.Opening.{opening};
 ghost use Rattle.spec_states.specs.Shown.{EachShowsItsView};
 ghost use Rattle.spec_states.specs.Step.{too_long};
-ghost use Rattle.spec_plans.specs.Built.{is_built};
+ghost use Rattle.spec_states.specs.Built.{is_built};
 ghost use Rattle.spec_runs.specs.Fits.{Fits};
 ghost use Rattle.spec_runs.specs.Run.{run, left_to, replies_at, shown_after};
-ghost use Rattle.spec_runs.specs.Telling.{listener_turns};
+ghost use Rattle.spec_runs.specs.Telling.{listener_dependency_order};
 ghost use Rattle.gl_graph.specs.Build.{IsReason};
 ghost use Rattle.gl_world.specs.Told.{tellings_of, IsFresh};
 
@@ -18,11 +18,9 @@ use crate::next::{Next, Spent};
 use crate::section::{Taken, take_all};
 use crate::telling::Telling;
 use gl_graph::{BuildFault, Graph};
-use gl_lines::Reply;
 use gl_outside::Actor;
-use gl_plan::Plan;
-use gl_value::{Memory, Steps, Value};
-use sqlite_items::Items;
+use gl_plan::{Plan, Reply};
+use gl_value::{Items, Memory, Steps, Value};
 use std::alloc::Global;
 use std::marker::{Model, PhantomData};
 use std::sync::ledger::Ledger;
@@ -43,9 +41,9 @@ pub struct World<N: RunName> {
 
 impl<N: RunName> Model for World<N> {
     ghost use Rattle.std.specs.Coded.{codes};
-    ghost use Rattle.spec_value.specs.Code.{tree_code};
-    ghost use Rattle.spec_lang.specs.MatcherCode.{matcher_code};
-    ghost use Rattle.spec_lang.specs.FuncCode.{func_code};
+    ghost use Rattle.spec_states.specs.Code.{tree_code};
+    ghost use Rattle.spec_states.specs.MatcherCode.{matcher_code};
+    ghost use Rattle.spec_states.specs.FuncCode.{func_code};
     ghost use Rattle.gl_world.specs.History.{History};
     ghost use Rattle.gl_world.specs.World.{IsWorld};
 
@@ -118,7 +116,7 @@ impl<N: RunName> World<N> {
 
     /// The listeners in the order in which they are told at an entry.
     pub fn turn(&self) -> &[u32]
-        ensures { result.now ≡ listener_turns self.now.plan }
+        ensures { result.now ≡ listener_dependency_order self.now.plan }
     {
         self.plan.listener_order()
     }
@@ -146,7 +144,8 @@ impl<N: RunName> World<N> {
     /// What a list shows at a place.
     pub fn shown(&self, list: u32, place: usize) -> Option<&Value>
         requires { list < length self.now.plan.lists }
-        ensures value { option_copied result ≡ slice_get (shown_after self.now.plan self.now.order list) place }
+        ensures value { option_copied result
+            ≡ slice_get (shown_after self.now.plan self.now.order list) place }
         ensures views { EachShowsItsView (run self.now.plan self.now.order).state }
     {
         self.graph.get(list, place)

@@ -66,7 +66,7 @@ fn run(rt: &(impl Env + Input + Print + AllocGlobal)) -> u8 {
     plain(rt.alloc(), words.as_slice(), &mut source, &mut sink).code()
 }
 
-// The words behind the program's name.
+// The words after the program's name.
 fn words(rt: &(impl Env + AllocGlobal)) -> Result<Vec<Text>, WordsFault> {
     let mut words = Vec::new(rt.alloc());
     for argument in env::args(rt)?.skip(1) {

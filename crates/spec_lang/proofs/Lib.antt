@@ -1,3 +1,3 @@
-pub mod SortingLaws
+pub mod Sortings
 pub mod Lists
-pub mod KindLaws
+pub mod KindCases

@@ -52,7 +52,8 @@ abbrev read_marks : List Mark → List Funcs
 read_marks [] = []
 read_marks (inl n ∷ k) = read_mark n (read_marks k)
 read_marks (inr (inl n) ∷ k) = push (number n) (read_marks k)
-read_marks (inr (inr leaf_mark) ∷ k) = push (leaf leaf_mark.0 leaf_mark.1.0 leaf_mark.1.1) (read_marks k)
+read_marks (inr (inr leaf_mark) ∷ k) =
+    push (leaf leaf_mark.0 leaf_mark.1.0 leaf_mark.1.1) (read_marks k)
 
 join-push : (f g : Func) (stack : List Funcs) → join (push f (push g stack)) ≡ push (sum f g) stack
 join-push f g [] = refl
@@ -66,12 +67,15 @@ mutual
   read_marks-func (count path) k = refl
   read_marks-func (total path each) k = refl
   read_marks-func (sum f g) k =
-      ap join (read_marks-func f (func_marks g k) ∙ ap (push f) (read_marks-func g k)) ∙ join-push f g (read_marks k)
+      ap join (read_marks-func f (func_marks g k) ∙ ap (push f) (read_marks-func g k))
+      ∙ join-push f g (read_marks k)
   read_marks-func (list fs) k = ap nest (read_marks-funcs fs k)
 
-  read_marks-funcs : (fs : Funcs) (k : List Mark) → read_marks (funcs_marks fs k) ≡ fs ∷ read_marks k
+  read_marks-funcs : (fs : Funcs) (k : List Mark)
+      → read_marks (funcs_marks fs k) ≡ fs ∷ read_marks k
   read_marks-funcs none k = refl
-  read_marks-funcs (more f fs) k = read_marks-func f (funcs_marks fs k) ∙ ap (push f) (read_marks-funcs fs k)
+  read_marks-funcs (more f fs) k =
+      read_marks-func f (funcs_marks fs k) ∙ ap (push f) (read_marks-funcs fs k)
 
 abbrev first : List Funcs → Func
 first [] = list none
@@ -82,5 +86,9 @@ pub first-read_marks : (f : Func) → first (read_marks (func_marks f (inl 0 ∷
 first-read_marks f = ap first (read_marks-func f (inl 0 ∷ []))
 
 abbrev pub func_code : Coded Func
-func_code = code_by (List Mark) (coded_list (coded⊎ coded_ℕ (coded⊎ coded_ℤ (coded× coded_ℕ (coded× (coded_list coded_ℕ) (coded_list coded_ℕ))))))
+func_code =
+    code_by (List Mark)
+    (coded_list
+    (coded⊎ coded_ℕ
+    (coded⊎ coded_ℤ (coded× coded_ℕ (coded× (coded_list coded_ℕ) (coded_list coded_ℕ))))))
     (λ f. func_marks f (inl 0 ∷ [])) (λ k. first (read_marks k)) first-read_marks

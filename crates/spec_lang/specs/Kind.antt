@@ -13,7 +13,8 @@ use Rattle.spec_lang.specs.MatcherCode.{Mark, test_number, matcher_marks}
 -- the marks of a matcher as one value, so that matchers can be compared as they are written
 abbrev pub mark_value : Mark → Tree
 mark_value (inl n) = num (pos n)
-mark_value (inr (path, (test, literal))) = items_of (items_of (map (λ i. num (pos i)) path) ∷ num (pos (test_number test)) ∷ literal ∷ [])
+mark_value (inr (path, (test, literal))) =
+    items_of (items_of (map (λ i. num (pos i)) path) ∷ num (pos (test_number test)) ∷ literal ∷ [])
 
 abbrev pub written : Matcher → Tree
 written m = items_of (map mark_value (matcher_marks m (inl 0 ∷ [])))

@@ -7,3 +7,5 @@ pub mod MatcherCode
 pub mod FuncCode
 pub mod Kind
 pub mod Rows
+pub use Rattle.spec_value.specs.Code
+pub use Rattle.spec_value.specs.Name

@@ -62,7 +62,7 @@ negate [] = []
 negate (none ∷ stack) = none ∷ stack
 negate (more m ms ∷ stack) = more (negation m) ms ∷ stack
 
--- the topmost list made a matcher, in front of the next one
+-- the topmost list made a matcher, before the next one
 abbrev nest : (Matchers → Matcher) → List Matchers → List Matchers
 nest make [] = []
 nest make (ms ∷ stack) = push (make ms) stack
@@ -80,22 +80,27 @@ read_marks [] = []
 read_marks (inl n ∷ k) = read_mark n (read_marks k)
 read_marks (inr (path, (test, literal)) ∷ k) = push (is path test literal) (read_marks k)
 
-negate-push : (m : Matcher) (stack : List Matchers) → negate (push m stack) ≡ push (negation m) stack
+negate-push : (m : Matcher) (stack : List Matchers)
+    → negate (push m stack) ≡ push (negation m) stack
 negate-push m [] = refl
 negate-push m (ms ∷ stack) = refl
 
 mutual
-  read_marks-matcher : (m : Matcher) (k : List Mark) → read_marks (matcher_marks m k) ≡ push m (read_marks k)
+  read_marks-matcher : (m : Matcher) (k : List Mark)
+      → read_marks (matcher_marks m k) ≡ push m (read_marks k)
   read_marks-matcher all k = refl
   read_marks-matcher nothing k = refl
   read_marks-matcher (is path test literal) k = refl
-  read_marks-matcher (negation m) k = ap negate (read_marks-matcher m k) ∙ negate-push m (read_marks k)
+  read_marks-matcher (negation m) k =
+      ap negate (read_marks-matcher m k) ∙ negate-push m (read_marks k)
   read_marks-matcher (both ms) k = ap (nest both) (read_marks-matchers ms k)
   read_marks-matcher (either ms) k = ap (nest either) (read_marks-matchers ms k)
 
-  read_marks-matchers : (ms : Matchers) (k : List Mark) → read_marks (matchers_marks ms k) ≡ ms ∷ read_marks k
+  read_marks-matchers : (ms : Matchers) (k : List Mark)
+      → read_marks (matchers_marks ms k) ≡ ms ∷ read_marks k
   read_marks-matchers none k = refl
-  read_marks-matchers (more m ms) k = read_marks-matcher m (matchers_marks ms k) ∙ ap (push m) (read_marks-matchers ms k)
+  read_marks-matchers (more m ms) k =
+      read_marks-matcher m (matchers_marks ms k) ∙ ap (push m) (read_marks-matchers ms k)
 
 abbrev pub first : List Matchers → Matcher
 first [] = all
@@ -106,5 +111,7 @@ pub first-read_marks : (m : Matcher) → first (read_marks (matcher_marks m (inl
 first-read_marks m = ap first (read_marks-matcher m (inl 0 ∷ []))
 
 abbrev pub matcher_code : Coded Matcher
-matcher_code = code_by (List Mark) (coded_list (coded⊎ coded_ℕ (coded× (coded_list coded_ℕ) (coded× test_code tree_code))))
+matcher_code =
+    code_by (List Mark)
+    (coded_list (coded⊎ coded_ℕ (coded× (coded_list coded_ℕ) (coded× test_code tree_code))))
     (λ m. matcher_marks m (inl 0 ∷ [])) (λ k. first (read_marks k)) first-read_marks

@@ -44,8 +44,8 @@ one_of_two = refl
 both_of_two : accepts (both (matchers (nothing ∷ all ∷ []))) row ≡ false
 both_of_two = refl
 
-turned_round : accepts (negation nothing) row ≡ true
-turned_round = refl
+inverse_round : accepts (negation nothing) row ≡ true
+inverse_round = refl
 
 abbrev up : List ℕ → Key
 up path = record { path = path; down = false }
@@ -54,10 +54,13 @@ abbrev down : List ℕ → Key
 down path = record { path = path; down = true }
 
 -- [1,2] and [1,3]: the first key is the same, the second decides
-second_key : order_cmp (up (0 ∷ []) ∷ up (1 ∷ []) ∷ []) (items_of (num (pos 1) ∷ num (pos 2) ∷ [])) (items_of (num (pos 1) ∷ num (pos 3) ∷ [])) ≡ Less
+second_key : order_cmp (up (0 ∷ []) ∷ up (1 ∷ []) ∷ []) (items_of (num (pos 1) ∷ num (pos 2) ∷ []))
+    (items_of (num (pos 1) ∷ num (pos 3) ∷ [])) ≡ Less
 second_key = refl
 
-second_key_down : order_cmp (up (0 ∷ []) ∷ down (1 ∷ []) ∷ []) (items_of (num (pos 1) ∷ num (pos 2) ∷ [])) (items_of (num (pos 1) ∷ num (pos 3) ∷ [])) ≡ Greater
+second_key_down : order_cmp (up (0 ∷ []) ∷ down (1 ∷ []) ∷ [])
+    (items_of (num (pos 1) ∷ num (pos 2) ∷ [])) (items_of (num (pos 1) ∷ num (pos 3) ∷ []))
+    ≡ Greater
 second_key_down = refl
 
 equal_keys : order_cmp (up (0 ∷ []) ∷ []) (items_of (num (pos 1) ∷ [])) row ≡ Equal
@@ -77,10 +80,12 @@ totalled = refl
 others_count_0 : eval (total [] []) row ≡ num (pos 1)
 others_count_0 = refl
 
-stops_at_the_end : eval (sum (number (pos 9223372036854775807)) (at_path (0 ∷ []))) row ≡ num (pos 9223372036854775807)
+stops_at_the_end : eval (sum (number (pos 9223372036854775807)) (at_path (0 ∷ []))) row
+    ≡ num (pos 9223372036854775807)
 stops_at_the_end = refl
 
-listed : eval (list (funcs (at_path (1 ∷ []) ∷ count [] ∷ []))) row ≡ items_of (text (97 ∷ []) ∷ num (pos 3) ∷ [])
+listed : eval (list (funcs (at_path (1 ∷ []) ∷ count [] ∷ []))) row
+    ≡ items_of (text (97 ∷ []) ∷ num (pos 3) ∷ [])
 listed = refl
 
 children : kids (2 ∷ []) row ≡ num (pos 4) ∷ num (pos 5) ∷ []

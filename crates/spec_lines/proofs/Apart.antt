@@ -3,7 +3,8 @@ use Rattle.std.proofs.Common.{◌≡◌, ℕ, Bool, true, false, ◌&&◌, List,
 use Rattle.std.specs.List.{AllByRecursion}
 use Rattle.std.proofs.lemmas.Bool.{false≢true}
 use Rattle.std.specs.Prelude.{IsTrue}
-use Rattle.spec_grammar.specs.Grammar.{differ, AreApart}
+use Rattle.spec_syntax.specs.Grammar.{differ, AreApart}
+use Rattle.spec_basics.proofs.Booleans.{and_parts}
 
 abbrev pub all_differ : {K : Type 0} → List ℕ → List (List ℕ × K) → Bool
 all_differ w [] = true
@@ -12,10 +13,6 @@ all_differ w (row ∷ rows) = differ w row.0 && all_differ w rows
 abbrev pub are_apart : {K : Type 0} → List (List ℕ × K) → Bool
 are_apart [] = true
 are_apart (row ∷ rows) = all_differ row.0 rows && are_apart rows
-
-and_parts : (a b : Bool) → (a && b) ≡ true → (a ≡ true) × (b ≡ true)
-and_parts true b h = (refl, h)
-and_parts false b h = absurd (false≢true h)
 
 all_apart : {K : Type 0} (w : List ℕ) (rows : List (List ℕ × K)) → all_differ w rows ≡ true → AllByRecursion (λ other. IsTrue (differ w other.0)) rows
 all_apart w [] h = tt

@@ -69,8 +69,8 @@ placed_same (line.Range name input bounds) = refl
 placed_same (line.Function name input func) = refl
 placed_same (line.Collection name input path) = refl
 placed_same (line.Composite n ms may) =
-    let behind = past (11 + length n.name) (names_of ms) + 5 in
-    ap (λ x. line.Composite (moved n) x (all_moved (in_row behind (names_of may)))) (row_moved (11 + length n.name + 1) ms) ∙ ap (λ x. line.Composite (moved n) (all_moved ms) x) (row_moved behind may)
+    let after_word = past (11 + length n.name) (names_of ms) + 5 in
+    ap (λ x. line.Composite (moved n) x (all_moved (in_row after_word (names_of may)))) (row_moved (11 + length n.name + 1) ms) ∙ ap (λ x. line.Composite (moved n) (all_moved ms) x) (row_moved after_word may)
 placed_same (line.Transaction name input) = refl
 placed_same (line.Freezable name input) = refl
 placed_same (line.Proxy name input) = refl

@@ -4,18 +4,20 @@ use Rattle.std.specs.List.{list_all}
 use Rattle.std.proofs.lemmas.Bool.{cases_eq, cases_Bool, cases_lt, false≢true}
 use Rattle.std.proofs.lemmas.Bool.Decides.{nat_tests}
 use Rattle.spec_value.specs.Name.{is_name, is_name_byte}
-use Rattle.spec_grammar.specs.Grammar.{Grammar, empty, mapped, both, either, after, optional, many, listed}
-use Rattle.spec_grammar.specs.Reader.{Step, found, stopped, first_is, made, seq, all_of, behind, nearer}
-use Rattle.spec_grammar.proofs.Missed.{missed, missed-same, missed-other, missed-front, missed_all, missed_all', missed_most}
-use Rattle.spec_grammar.proofs.Reading.{Tails, no_more, followed, Finds, Stops, IsStep, Reads, Has, HasTail}
-use Rattle.spec_grammar.proofs.Sequences.{rest_le, made_step, seq_step, made_of_step, made_of_reads, seq_reads, behind_reads, alike_step}
-use Rattle.spec_grammar.proofs.Repetitions.{Begun, Unbegun, first_is-append, first_other, begun_word, many_reads}
+use Rattle.spec_syntax.specs.Grammar.{Grammar, empty, mapped, both, either, after, optional, many, listed}
+use Rattle.spec_syntax.specs.Reader.{Step, found, stopped, first_is, made, seq, all_of, after_word, nearer}
+use Rattle.spec_syntax.proofs.Missed.{missed, missed-same, missed-other, missed-prefix, missed_all, missed_all', missed_most}
+use Rattle.spec_syntax.proofs.ReadSteps.{Tails, no_more, followed, Finds, Stops, IsStep, Reads, Has, HasTail}
+use Rattle.spec_syntax.proofs.Sequences.{rest_le, made_step, seq_step, made_of_step, made_of_reads, seq_reads, after_reads, alike_step}
+use Rattle.spec_syntax.proofs.Repetitions.{Begun, Unbegun, first_is-append, first_other, begun_word, many_reads}
 use Rattle.spec_syntax.specs.Name.{name, read_name}
 use Rattle.spec_syntax.specs.ValueReader.{is}
 use Rattle.spec_syntax.proofs.Names.{name_reads, has_name, name_bytes}
 use Rattle.spec_syntax.proofs.Ahead.{has_many, unbegun_many_of}
 use Rattle.spec_lines.specs.Line.{members, may_part, composite_part}
 use Rattle.spec_lines.specs.Reader.{read_names, read_may, member_or_may, read_composite}
+use Rattle.spec_basics.proofs.Booleans.{and_parts}
+use Rattle.spec_syntax.proofs.Folds.{made_made}
 
 abbrev Names : Type 0
 Names = List (List ℕ)
@@ -26,8 +28,8 @@ one_member = after (codes " ") name
 pub ends : (p : ℕ → Bool) → Unbegun p no_more
 ends p v e = ap (first_is p) e
 
-pub none_behind : HasTail no_more
-none_behind = ([], refl)
+pub nothing_follows : HasTail no_more
+nothing_follows = ([], refl)
 
 -- a byte that stands in no name
 abbrev pub Separates : ℕ → Type 0
@@ -44,11 +46,11 @@ pub names_reads : (n c : ℕ) (w : List ℕ) (F : Tails) → Separates c → Has
 names_reads n c w F separates some un nameless =
     let more = many (after (c ∷ w) name) in
     let un_more : Unbegun is_name_byte (followed more F) = unbegun_many_of is_name_byte (is c) (after (c ∷ w) name) F (other c separates) (begun_word (is c) c w name (same c)) nameless in
-    made_of_reads n (λ b. b.0 ∷ b.1) (both name more) F (seq read_name (all_of (is c) (behind (c ∷ w) read_name)))
-    (seq_reads n name more F read_name (all_of (is c) (behind (c ∷ w) read_name))
+    made_of_reads n (λ b. b.0 ∷ b.1) (both name more) F (seq read_name (all_of (is c) (after_word (c ∷ w) read_name)))
+    (seq_reads n name more F read_name (all_of (is c) (after_word (c ∷ w) read_name))
     (name_reads n (followed more F) (has_many (after (c ∷ w) name) F some) un_more)
-    (many_reads n (is c) (after (c ∷ w) name) F (behind (c ∷ w) read_name) (begun_word (is c) c w name (same c)) un
-    (behind_reads n n (c ∷ w) name (followed more F) read_name (omega arith) has_name (has_many (after (c ∷ w) name) F some)
+    (many_reads n (is c) (after (c ∷ w) name) F (after_word (c ∷ w) read_name) (begun_word (is c) c w name (same c)) un
+    (after_reads n n (c ∷ w) name (followed more F) read_name (omega arith) has_name (has_many (after (c ∷ w) name) F some)
     (name_reads n (followed more F) (has_many (after (c ∷ w) name) F some) un_more))))
   where
     same : (c : ℕ) → is c c ≡ true
@@ -59,8 +61,8 @@ has_names c w = ((97 ∷ []) ∷ [], 97 ∷ [], ((97 ∷ [], []), (97 ∷ [], []
 
 may_reads : (n : ℕ) → Reads n may_part no_more read_may
 may_reads n =
-    behind_reads n n (codes " may ") (listed name (codes " ")) no_more (read_names 32 (codes " ")) (omega arith) (has_names 32 []) none_behind
-    (names_reads n 32 [] no_more refl none_behind (ends (is 32)) (ends is_name_byte))
+    after_reads n n (codes " may ") (listed name (codes " ")) no_more (read_names 32 (codes " ")) (omega arith) (has_names 32 []) nothing_follows
+    (names_reads n 32 [] no_more refl nothing_follows (ends (is 32)) (ends is_name_byte))
 
 -- either all of what misses more than so many, or a front that bytes share
 shared_or : (u : List ℕ) (x y : ℕ) (w z bs : List ℕ) (most : ℕ) → most < missed (u ++ x ∷ w) bs → (most < missed (u ++ y ∷ z) bs) ⊎ ((rest : List ℕ) × (bs ≡ u ++ y ∷ rest))
@@ -95,10 +97,6 @@ no_name (a ∷ b ∷ c ∷ d ∷ m) rest y h e l = let same : (a ∷ b ∷ c ∷
     spaced : (m : List ℕ) → is_name (109 ∷ 97 ∷ 121 ∷ 32 ∷ m) ≡ false
     spaced m = refl
 
-and_parts : (a b : Bool) → (a && b) ≡ true → (a ≡ true) × (b ≡ true)
-and_parts true b h = (refl, h)
-and_parts false b h = absurd (false≢true h)
-
 -- other bytes of names ahead of a space
 name_far : (u m v y : List ℕ) → list_all is_name_byte u ≡ true → list_all is_name_byte m ≡ true → first_is is_name_byte v ≡ false → (m ≡ u → ⊥) → length y < missed (m ++ v) (u ++ 32 ∷ y)
 name_far [] [] v y hu hm un ne = absurd (ne refl)
@@ -109,11 +107,11 @@ name_far (c ∷ u) (x ∷ m) v y hu hm un ne = elim (cases_eq x c) as (λ _. len
   | inr other ↦ omega (arith, missed-other x c (m ++ v) (u ++ 32 ∷ y) other, length-append u (32 ∷ y))
 ]
 
--- a member and its tail miss all that is behind ` may `
+-- a member and its tail miss all that is after ` may `
 member_far : (m v y : List ℕ) → is_name m ≡ true → first_is is_name_byte v ≡ false → length y < missed ((32 ∷ m) ++ v) (codes " may " ++ y)
 member_far m v y h un = omega (arith, missed-same 32 32 (m ++ v) (codes "may " ++ y) refl, name_far (codes "may") m v y refl (name_bytes m h) un (λ e. false≢true (sym (ap is_name e) ∙ h)))
 
--- a composite's part begins with a member, or it is the lists behind ` may `, or nothing
+-- a composite's part begins with a member, or it is the lists after ` may `, or nothing
 abbrev with_member : List ℕ × (Names × Names) → Names × Names
 with_member ab = (ab.0 ∷ ab.1.0, ab.1.1)
 
@@ -168,23 +166,23 @@ spaced_part a t v s tail = elim (split_from a t s) as (λ _. (t ≡ []) ⊎ (fir
   ]
 ]
 
-abbrev pub behind_member : Tails
-behind_member = followed composite_part no_more
+abbrev pub after_member : Tails
+after_member = followed composite_part no_more
 
-pub behind_has : HasTail behind_member
-behind_has = ([], (([], []), [], [], ([], [], refl, inr (tt, refl, refl), refl), refl, refl))
+pub after_has : HasTail after_member
+after_has = ([], (([], []), [], [], ([], [], refl, inr (tt, refl, refl), refl), refl, refl))
 
-space_in_none : (b : ℕ) → is 32 b ≡ true → is_name_byte b ≡ false
+pub space_in_none : (b : ℕ) → is 32 b ≡ true → is_name_byte b ≡ false
 space_in_none b h = other 32 refl b h
 
-pub behind_unnamed : Unbegun is_name_byte behind_member
-behind_unnamed v s = elim (spaced_part s.0 s.1 s.2 s.3 s.4) as (λ _. first_is is_name_byte v ≡ false) [
+pub after_unnamed : Unbegun is_name_byte after_member
+after_unnamed v s = elim (spaced_part s.0 s.1 s.2 s.3 s.4) as (λ _. first_is is_name_byte v ≡ false) [
   | inl e ↦ ap (first_is is_name_byte) (s.5 ∙ ap (λ x. x ++ s.2) e ∙ s.4)
   | inr e ↦ ap (first_is is_name_byte) s.5 ∙ first_other (is 32) is_name_byte (s.1 ++ s.2) space_in_none e
 ]
 
-pub member_reads : (n : ℕ) → Reads n one_member behind_member (behind (codes " ") read_name)
-member_reads n = behind_reads n n (codes " ") name behind_member read_name (omega arith) has_name behind_has (name_reads n behind_member behind_has behind_unnamed)
+pub member_reads : (n : ℕ) → Reads n one_member after_member (after_word (codes " ") read_name)
+member_reads n = after_reads n n (codes " ") name after_member read_name (omega arith) has_name after_has (name_reads n after_member after_has after_unnamed)
 
 -- how much a step leaves
 abbrev AtMost : {A : Type 0} → Step A → ℕ → Type 0
@@ -192,7 +190,7 @@ AtMost (found a rest) n = length rest ≤ n
 AtMost (stopped left) n = left ≤ n
 
 at_most : {A : Type 0} (S : Grammar A) (F : Tails) (bs : List ℕ) (st : Step A) → IsStep S F bs st → AtMost st (length bs)
-at_most S F bs (found a rest) f = rest_le bs f.front rest f.are
+at_most S F bs (found a rest) f = rest_le bs f.prefix rest f.are
 at_most S F bs (stopped left) f = omega (arith, f.near, missed_most (f.text ++ f.tail) bs)
 
 at_most_made : {A B : Type 0} (k : A → B) (st : Step A) (n : ℕ) → AtMost st n → AtMost (made k st) n
@@ -202,10 +200,10 @@ at_most_made k (stopped left) n h = h
 -- another grammar, of which each text misses more than a step leaves
 beside : {A : Type 0} (P Q : Grammar A) (F : Tails) (bs : List ℕ) (st : Step A) (most : ℕ) → AtMost st most → ((a : A) (t v : List ℕ) → Q a t → F v → most < missed (t ++ v) bs) → IsStep P F bs st → IsStep (either P Q) F bs st
 beside P Q F bs (found a rest) most l far f = record {
-  front = f.front;
+  prefix = f.prefix;
   spelled = inl f.spelled;
   are = f.are;
-  others = λ b t v s tail. elim s as (λ _. ((b ≡ a) × (t ≡ f.front)) ⊎ (length rest < missed (t ++ v) bs)) [
+  others = λ b t v s tail. elim s as (λ _. ((b ≡ a) × (t ≡ f.prefix)) ⊎ (length rest < missed (t ++ v) bs)) [
     | inl g ↦ f.others b t v g tail
     | inr g ↦ inr (omega (arith, far b t v g tail, l))
   ];
@@ -223,37 +221,33 @@ beside P Q F bs (stopped left) most l far f = record {
   ];
 }
 
-turned : {A : Type 0} (P Q : Grammar A) (a : A) (t : List ℕ) → either P Q a t → either Q P a t
-turned P Q a t s = elim s as (λ _. either Q P a t) [ inl g ↦ inr g | inr g ↦ inl g ]
-
-made_made : {A B C : Type 0} (f : B → C) (g : A → B) (st : Step A) → made f (made g st) ≡ made (λ a. f (g a)) st
-made_made f g (found a rest) = refl
-made_made f g (stopped left) = refl
+reversed : {A : Type 0} (P Q : Grammar A) (a : A) (t : List ℕ) → either P Q a t → either Q P a t
+reversed P Q a t s = elim s as (λ _. either Q P a t) [ inl g ↦ inr g | inr g ↦ inl g ]
 
 -- nothing misses all of some bytes
 empty_far : (a : Names × Names) (t v bs : List ℕ) → mapped {A = Unit {0}} (λ _. ([], [])) empty a t → no_more v → first_is (is 32) bs ≡ true → length bs < missed (t ++ v) bs
 empty_far a t v [] s tail h = absurd (false≢true h)
 empty_far a t v (b ∷ bs) s tail h = omega (arith, ap (λ x. missed x (b ∷ bs)) (ap (λ x. x ++ v) s.1 ∙ tail))
 
--- where a member was found, the lists behind ` may ` miss more
-may_far : (bs m rest : List ℕ) (lists : Names) (t v : List ℕ) → Finds one_member behind_member bs m rest → may_part lists t → length rest < missed (t ++ v) bs
-unfolding behind_has
+-- where a member was found, the lists after ` may ` miss more
+may_far : (bs m rest : List ℕ) (lists : Names) (t v : List ℕ) → Finds one_member after_member bs m rest → may_part lists t → length rest < missed (t ++ v) bs
+unfolding after_has
 may_far bs m rest lists t v f s =
     let z = s.1.1 ++ v in
     let parts : t ++ v ≡ codes " may" ++ 32 ∷ z = ap (λ x. x ++ v) (s.1.4 ∙ ap (λ x. x ++ s.1.1) s.1.2) ∙ append_assoc (codes " may ") s.1.1 v in
-    let front : f.front ≡ 32 ∷ m = f.spelled.1.4 ∙ ap (λ x. x ++ f.spelled.1.1) f.spelled.1.2 ∙ ap (λ x. 32 ∷ x) (f.spelled.1.3.1 ∙ sym f.spelled.2) in
-    let whole : bs ≡ 32 ∷ (m ++ rest) = f.are ∙ ap (λ x. x ++ rest) front in
+    let prefix : f.prefix ≡ 32 ∷ m = f.spelled.1.4 ∙ ap (λ x. x ++ f.spelled.1.1) f.spelled.1.2 ∙ ap (λ x. 32 ∷ x) (f.spelled.1.3.1 ∙ sym f.spelled.2) in
+    let whole : bs ≡ 32 ∷ (m ++ rest) = f.are ∙ ap (λ x. x ++ rest) prefix in
     let named : is_name m ≡ true = ap is_name f.spelled.2 ∙ f.spelled.1.3.0 in
     let longer : one_member (codes "maya") (codes " maya") = ((tt, codes "maya"), (codes " ", codes "maya", refl, (refl, refl), refl), refl) in
-    let far : length rest < missed (codes " may" ++ 32 ∷ z) bs = elim (f.others (codes "maya") (codes " maya") [] longer behind_has.1) as (λ _. length rest < missed (codes " may" ++ 32 ∷ z) bs) [
-      | inl e ↦ omega (arith, ap (missed (codes " may" ++ 32 ∷ z)) (f.are ∙ ap (λ x. x ++ rest) (sym e.1)), missed-front (codes " may") (32 ∷ z) (97 ∷ rest), missed-other 32 97 z rest (λ g. omega (arith, g)))
+    let far : length rest < missed (codes " may" ++ 32 ∷ z) bs = elim (f.others (codes "maya") (codes " maya") [] longer after_has.1) as (λ _. length rest < missed (codes " may" ++ 32 ∷ z) bs) [
+      | inl e ↦ omega (arith, ap (missed (codes " may" ++ 32 ∷ z)) (f.are ∙ ap (λ x. x ++ rest) (sym e.1)), missed-prefix (codes " may") (32 ∷ z) (97 ∷ rest), missed-other 32 97 z rest (λ g. omega (arith, g)))
       | inr h ↦ elim (shared_or (codes " may") 97 32 [] z bs (length rest) h) as (λ _. length rest < missed (codes " may" ++ 32 ∷ z) bs) [
         | inl g ↦ g
         | inr g ↦
             let both_ways : 32 ∷ (m ++ rest) ≡ 32 ∷ 109 ∷ 97 ∷ 121 ∷ 32 ∷ g.0 = sym whole ∙ g.1 in
             let same : m ++ rest ≡ 109 ∷ 97 ∷ 121 ∷ 32 ∷ g.0 = tails_same (m ++ rest) (109 ∷ 97 ∷ 121 ∷ 32 ∷ g.0) both_ways in
             absurd (no_name m rest g.0 named same
-            (omega (arith, ap length same, length-append m rest, h, ap (missed (codes " may" ++ 97 ∷ [])) g.1, missed-front (codes " may") (97 ∷ []) (32 ∷ g.0), missed-other 97 32 [] g.0 (λ k. omega (arith, k)))))
+            (omega (arith, ap length same, length-append m rest, h, ap (missed (codes " may" ++ 97 ∷ [])) g.1, missed-prefix (codes " may") (97 ∷ []) (32 ∷ g.0), missed-other 97 32 [] g.0 (λ k. omega (arith, k)))))
       ]
     ] in
     omega (arith, far, ap (λ x. missed x bs) parts)
@@ -261,13 +255,13 @@ may_far bs m rest lists t v f s =
     tails_same : (x y : List ℕ) → 32 ∷ x ≡ 32 ∷ y → x ≡ y
     tails_same x y e = cc
 
-last_far : (bs m rest : List ℕ) (a : Names × Names) (t v : List ℕ) → first_is (is 32) bs ≡ true → Finds one_member behind_member bs m rest → last a t → no_more v → length rest < missed (t ++ v) bs
+last_far : (bs m rest : List ℕ) (a : Names × Names) (t v : List ℕ) → first_is (is 32) bs ≡ true → Finds one_member after_member bs m rest → last a t → no_more v → length rest < missed (t ++ v) bs
 last_far bs m rest a t v h f s tail = elim s as (λ _. length rest < missed (t ++ v) bs) [
   | inl g ↦ may_far bs m rest g.0 t v f g.1
-  | inr g ↦ omega (arith, empty_far a t v bs g tail h, rest_le bs f.front rest f.are)
+  | inr g ↦ omega (arith, empty_far a t v bs g tail h, rest_le bs f.prefix rest f.are)
 ]
 
--- where the lists behind ` may ` were found, members miss more
+-- where the lists after ` may ` were found, members miss more
 members_far : (bs : List ℕ) (lists : Names) (rest : List ℕ) (ab : List ℕ × (Names × Names)) (t v : List ℕ) → Finds may_part no_more bs lists rest → both one_member composite_part ab t → no_more v → length rest < missed (t ++ v) bs
 members_far bs lists rest ab t v f s tail =
     let m = ab.0 in
@@ -277,7 +271,7 @@ members_far bs lists rest ab t v f s tail =
     let parts : t ++ v ≡ (32 ∷ m) ++ w = ap (λ x. x ++ v) (s.4 ∙ ap (λ x. x ++ s.1) first) ∙ append_assoc (32 ∷ m) s.1 v in
     let y = f.spelled.1.1 ++ rest in
     let whole : bs ≡ codes " may " ++ y = f.are ∙ ap (λ x. x ++ rest) (f.spelled.1.4 ∙ ap (λ x. x ++ f.spelled.1.1) f.spelled.1.2) ∙ append_assoc (codes " may ") f.spelled.1.1 rest in
-    let unnamed : first_is is_name_byte w ≡ false = behind_unnamed w (ab.1, s.1, v, s.3, tail, refl) in
+    let unnamed : first_is is_name_byte w ≡ false = after_unnamed w (ab.1, s.1, v, s.3, tail, refl) in
     omega (arith, member_far m w y named unnamed, ap (λ x. missed x bs) parts, ap (missed ((32 ∷ m) ++ w)) whole, length-append f.spelled.1.1 rest)
 
 -- of two grammars that both stop, the nearer one
@@ -303,16 +297,16 @@ nearest_of P Q F bs least left g f = elim (cases_lt least left) as (λ _. Stops 
   }
 ]
 
--- no member: the lists behind ` may `, or the nearer stop
+-- no member: the lists after ` may `, or the nearer stop
 abbrev with_members : Grammar (Names × Names)
 with_members = mapped with_member (both one_member composite_part)
 
 may_step : (bs : List ℕ) (left : ℕ) (st : Step Names) → first_is (is 32) bs ≡ true → Stops (both one_member composite_part) no_more bs left → IsStep may_part no_more bs st → IsStep split no_more bs (made no_member (nearer st (stopped left)))
 may_step bs left (found lists rest) h f g =
     let found_last : IsStep last no_more bs (found (no_member lists) rest) =
-    beside (mapped no_member may_part) (mapped (λ _. ([], [])) empty) no_more bs (found (no_member lists) rest) (length bs) (rest_le bs g.front rest g.are)
+    beside (mapped no_member may_part) (mapped (λ _. ([], [])) empty) no_more bs (found (no_member lists) rest) (length bs) (rest_le bs g.prefix rest g.are)
     (λ a t v s tail. empty_far a t v bs s tail h) (made_of_step no_member may_part no_more bs (found lists rest) g) in
-    alike_step (either last with_members) split no_more bs (found (no_member lists) rest) (turned last with_members) (turned with_members last)
+    alike_step (either last with_members) split no_more bs (found (no_member lists) rest) (reversed last with_members) (reversed with_members last)
     (beside last with_members no_more bs (found (no_member lists) rest) (length rest) (omega arith) (λ a t v s tail. members_far bs lists rest s.0 t v g s.1 tail) found_last)
 may_step bs left (stopped least) h f g =
     let stops_last : IsStep last no_more bs (stopped least) =
@@ -320,14 +314,14 @@ may_step bs left (stopped least) h f g =
     (λ a t v s tail. empty_far a t v bs s tail h) (made_of_step no_member may_part no_more bs (stopped least) g) in
     nearest_of with_members last no_more bs least left stops_last (made_of_step with_member (both one_member composite_part) no_more bs (stopped left) f)
 
-shorter : (bs rest front : List ℕ) → bs ≡ front ++ rest → first_is (is 32) front ≡ true → length rest < length bs
+shorter : (bs rest prefix : List ℕ) → bs ≡ prefix ++ rest → first_is (is 32) prefix ≡ true → length rest < length bs
 shorter bs rest [] e b = absurd (false≢true b)
-shorter bs rest (c ∷ front) e b = omega (arith, ap length e, length-append front rest)
+shorter bs rest (c ∷ prefix) e b = omega (arith, ap length e, length-append prefix rest)
 
 -- one member more, or none
-member_step : (bs : List ℕ) (k : ℕ) (st : Step (List ℕ)) → first_is (is 32) bs ≡ true → ((rest : List ℕ) → length rest < length bs → IsStep composite_part no_more rest (read_composite k rest)) → IsStep one_member behind_member bs st → IsStep split no_more bs (member_or_may st (read_may bs) (read_composite k))
+member_step : (bs : List ℕ) (k : ℕ) (st : Step (List ℕ)) → first_is (is 32) bs ≡ true → ((rest : List ℕ) → length rest < length bs → IsStep composite_part no_more rest (read_composite k rest)) → IsStep one_member after_member bs st → IsStep split no_more bs (member_or_may st (read_may bs) (read_composite k))
 member_step bs k (found m rest) h next f =
-    let inner : IsStep composite_part no_more rest (read_composite k rest) = next rest (shorter bs rest f.front f.are (begun_member m f.front f.spelled)) in
+    let inner : IsStep composite_part no_more rest (read_composite k rest) = next rest (shorter bs rest f.prefix f.are (begun_member m f.prefix f.spelled)) in
     let one = made_step one_member composite_part no_more bs m rest (read_composite k rest) f inner in
     let made_one = made_of_step with_member (both one_member composite_part) no_more bs (made (λ b. (m, b)) (read_composite k rest)) one in
     let joined = subst (λ st. IsStep with_members no_more bs st) (made_made with_member (λ b. (m, b)) (read_composite k rest)) made_one in
@@ -335,11 +329,11 @@ member_step bs k (found m rest) h next f =
     (at_most_made (λ ab. (m ∷ ab.0, ab.1)) (read_composite k rest) (length rest) (at_most composite_part no_more rest (read_composite k rest) inner))
     (λ a t v s tail. last_far bs m rest a t v h f s tail) joined
 member_step bs k (stopped left) h next f =
-    may_step bs left (read_may bs) h (seq_step one_member composite_part no_more bs (stopped left) (read_composite k) f (λ a rest g. next rest (shorter bs rest g.front g.are (begun_member a g.front g.spelled)))) (may_reads (length bs) bs (omega arith))
+    may_step bs left (read_may bs) h (seq_step one_member composite_part no_more bs (stopped left) (read_composite k) f (λ a rest g. next rest (shorter bs rest g.prefix g.are (begun_member a g.prefix g.spelled)))) (may_reads (length bs) bs (omega arith))
 
 no_part : (bs : List ℕ) → first_is (is 32) bs ≡ false → IsStep composite_part no_more bs (found ([], []) bs)
 no_part bs h = record {
-  front = [];
+  prefix = [];
   spelled = ([], [], refl, inr (tt, refl, refl), refl);
   are = refl;
   others = λ a t v s tail. none_or_far a t v (split_from a t s) tail;
@@ -358,10 +352,10 @@ pub composite_step : (k : ℕ) (bs : List ℕ) → length bs ≤ k → IsStep co
 composite_step zero [] l = no_part [] refl
 composite_step zero (b ∷ bs) l = absurd (omega arith)
 composite_step (suc k) bs l =
-    let more = member_or_may (behind (codes " ") read_name bs) (read_may bs) (read_composite k) in
+    let more = member_or_may (after_word (codes " ") read_name bs) (read_may bs) (read_composite k) in
     elim (cases_Bool (first_is (is 32) bs)) as (λ _. IsStep composite_part no_more bs (read_composite (suc k) bs)) [
       | inl e ↦ subst (λ x. IsStep composite_part no_more bs (cond x more (found ([], []) bs))) (sym e)
           (alike_step split composite_part no_more bs more split_to split_from
-          (member_step bs k (behind (codes " ") read_name bs) e (λ rest r. composite_step k rest (omega arith)) (member_reads (length bs) bs (omega arith))))
+          (member_step bs k (after_word (codes " ") read_name bs) e (λ rest r. composite_step k rest (omega arith)) (member_reads (length bs) bs (omega arith))))
       | inr e ↦ subst (λ x. IsStep composite_part no_more bs (cond x more (found ([], []) bs))) (sym e) (no_part bs e)
     ]

@@ -4,7 +4,7 @@ use Rattle.std.specs.Prelude.{IsTrue}
 use Rattle.std.specs.List.{AllByRecursion}
 use Rattle.spec_value.specs.Name.{is_name}
 use Rattle.spec_value.specs.Tree.{Tree}
-use Rattle.spec_grammar.specs.Grammar.{Grammar, both, after, apart, optional, many, listed, words}
+use Rattle.spec_syntax.specs.Grammar.{Grammar, both, after, apart, optional, many, listed, words}
 use Rattle.spec_syntax.specs.Value.{value, bracketed}
 use Rattle.spec_syntax.specs.Name.{name}
 use Rattle.spec_syntax.specs.Path.{path, order}
@@ -99,9 +99,9 @@ composite_placed = of_after IsPlaced (codes "composite ") (formed (11, composed)
     whole : (c : List ℕ × (List (List ℕ) × List (List ℕ))) (t : List ℕ) → both name composite_part c t → IsPlaced (composite_line 11 c)
     whole c t s =
         let column = 11 + length c.0 + 1 in
-        let behind = past (11 + length c.0) c.1.0 + 5 in (
-          (s.2.0, many_named (codes " ") column c.1.0 s.3.0 s.3.2, may_named behind c.1.1 s.3.1 s.3.3),
-          ap (λ x. composite_line 11 (c.0, (x, names_of (in_row behind c.1.1)))) (names_in_row column c.1.0) ∙ ap (λ x. composite_line 11 (c.0, (c.1.0, x))) (names_in_row behind c.1.1),
+        let after_word = past (11 + length c.0) c.1.0 + 5 in (
+          (s.2.0, many_named (codes " ") column c.1.0 s.3.0 s.3.2, may_named after_word c.1.1 s.3.1 s.3.3),
+          ap (λ x. composite_line 11 (c.0, (x, names_of (in_row after_word c.1.1)))) (names_in_row column c.1.0) ∙ ap (λ x. composite_line 11 (c.0, (c.1.0, x))) (names_in_row after_word c.1.1),
         )
 
 endings_named : (column : ℕ) (e : List (List ℕ) × Bool) (t : List ℕ) → endings e t → AllByRecursion IsNamed (in_row column e.0)

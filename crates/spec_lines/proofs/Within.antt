@@ -4,8 +4,8 @@ use Rattle.std.specs.Prelude.{IsTrue, decimal, if◌then◌else◌}
 use Rattle.std.specs.List.{AllByRecursion}
 use Rattle.spec_value.specs.Name.{is_name}
 use Rattle.spec_value.specs.Tree.{Tree}
-use Rattle.spec_grammar.specs.Grammar.{Grammar, after, optional, many, words}
-use Rattle.spec_texts.specs.Value.{spelled_value, spelled_list}
+use Rattle.spec_syntax.specs.Grammar.{Grammar, after, optional, many, words}
+use Rattle.spec_syntax.specs.ValueText.{spelled_value, spelled_list}
 use Rattle.spec_syntax.specs.Value.{value, bracketed}
 use Rattle.spec_syntax.specs.Name.{name}
 use Rattle.spec_syntax.specs.Path.{path, order}
@@ -46,37 +46,37 @@ in_table [] i row h l t s = absurd h
 in_table (first ∷ rows) zero row h l t s = inl (subst (λ r. after r.0 (formed r.1) l t) (sym h) s)
 in_table (first ∷ rows) (suc i) row h l t s = inr (in_table rows i row h l t s)
 
-behind_in : {A : Type 0} (w : List ℕ) (S : Grammar A) (a : A) (u : List ℕ) → S a u → after w S a (w ++ u)
-behind_in w S a u s = ((tt, a), (w, u, refl, s, refl), refl)
+after_in : {A : Type 0} (w : List ℕ) (S : Grammar A) (a : A) (u : List ℕ) → S a u → after w S a (w ++ u)
+after_in w S a u s = ((tt, a), (w, u, refl, s, refl), refl)
 
 limit_in : (limit : ℕ) → 0 < limit → limit ≤ 16777216 → after (codes "limit ") (formed (7, limited)) (line.Limit limit) (spelled_line (line.Limit limit))
-limit_in limit l m = behind_in (codes "limit ") (formed (7, limited)) (line.Limit limit) (decimal limit) (limit, positive_decimal limit 16777216 limit (omega arith) l m (omega arith), refl)
+limit_in limit l m = after_in (codes "limit ") (formed (7, limited)) (line.Limit limit) (decimal limit) (limit, positive_decimal limit 16777216 limit (omega arith) l m (omega arith), refl)
 
 bare_in : (w : List ℕ) (column : ℕ) (l : Line) → after w (formed (column, bare l)) l (w ++ [])
-bare_in w column l = behind_in w (formed (column, bare l)) l [] (tt, refl, refl)
+bare_in w column l = after_in w (formed (column, bare l)) l [] (tt, refl, refl)
 
 one_in : (w : List ℕ) (column : ℕ) (k : Named → Line) (n : List ℕ) → IsTrue (is_name n) → after w (formed (column, one_name k)) (k (at column n)) (w ++ (n ++ []))
-one_in w column k n h = behind_in w (formed (column, one_name k)) (k (at column n)) (n ++ []) (n, (h, append-nil n), refl)
+one_in w column k n h = after_in w (formed (column, one_name k)) (k (at column n)) (n ++ []) (n, (h, append-nil n), refl)
 
 two_in : (w : List ℕ) (column : ℕ) (k : Named → Named → Line) (n m : List ℕ) → IsTrue (is_name n) → IsTrue (is_name m) → after w (formed (column, two_names k)) (k (at column n) (at (column + length n + 1) m)) (w ++ (n ++ 32 ∷ (m ++ [])))
 two_in w column k n m h g =
-    behind_in w (formed (column, two_names k)) (k (at column n) (at (column + length n + 1) m)) (n ++ 32 ∷ (m ++ []))
-    ((n, m), (n, 32 ∷ (m ++ []), (h, refl), behind_in (codes " ") name m (m ++ []) (g, append-nil m), refl), refl)
+    after_in w (formed (column, two_names k)) (k (at column n) (at (column + length n + 1) m)) (n ++ 32 ∷ (m ++ []))
+    ((n, m), (n, 32 ∷ (m ++ []), (h, refl), after_in (codes " ") name m (m ++ []) (g, append-nil m), refl), refl)
 
 with_in : {A : Type 0} (w : List ℕ) (column : ℕ) (k : Named → A → Line) (S : Grammar A) (spell : A → List ℕ) (n : List ℕ) (a : A) → IsTrue (is_name n) → S a (spell a) → after w (with_name column k S) (k (at column n) a) (w ++ (((n ++ []) ++ codes " ") ++ spell a))
 with_in w column k S spell n a h s =
-    behind_in w (with_name column k S) (k (at column n) a) (((n ++ []) ++ codes " ") ++ spell a)
-    ((n, a), (n ++ [], 32 ∷ spell a, (h, append-nil n), behind_in (codes " ") S a (spell a) s, append_assoc (n ++ []) (codes " ") (spell a)), refl)
+    after_in w (with_name column k S) (k (at column n) a) (((n ++ []) ++ codes " ") ++ spell a)
+    ((n, a), (n ++ [], 32 ∷ spell a, (h, append-nil n), after_in (codes " ") S a (spell a) s, append_assoc (n ++ []) (codes " ") (spell a)), refl)
 
 both_in : {A : Type 0} (w : List ℕ) (column : ℕ) (k : Named → Named → A → Line) (S : Grammar A) (spell : A → List ℕ) (n m : List ℕ) (a : A) → IsTrue (is_name n) → IsTrue (is_name m) → S a (spell a) → after w (with_names column k S) (k (at column n) (at (column + length n + 1) m) a) (w ++ (((n ++ 32 ∷ (m ++ [])) ++ codes " ") ++ spell a))
 both_in w column k S spell n m a h g s =
-    behind_in w (with_names column k S) (k (at column n) (at (column + length n + 1) m) a) (((n ++ 32 ∷ (m ++ [])) ++ codes " ") ++ spell a) (
+    after_in w (with_names column k S) (k (at column n) (at (column + length n + 1) m) a) (((n ++ 32 ∷ (m ++ [])) ++ codes " ") ++ spell a) (
       (n, (m, a)),
       (
         n,
         32 ∷ ((m ++ []) ++ 32 ∷ spell a),
         (h, refl),
-        ((tt, (m, a)), (codes " ", (m ++ []) ++ 32 ∷ spell a, refl, (m ++ [], 32 ∷ spell a, (g, append-nil m), behind_in (codes " ") S a (spell a) s, refl), refl), refl),
+        ((tt, (m, a)), (codes " ", (m ++ []) ++ 32 ∷ spell a, refl, (m ++ [], 32 ∷ spell a, (g, append-nil m), after_in (codes " ") S a (spell a) s, refl), refl), refl),
         append_assoc (n ++ 32 ∷ (m ++ [])) (codes " ") (spell a) ∙ append_assoc n (32 ∷ (m ++ [])) (32 ∷ spell a),
       ),
       refl,
@@ -93,11 +93,11 @@ index_value_in : (w : List ℕ) (column : ℕ) (k : Named → ℕ → Tree → L
 index_value_in w column k n index v h g s =
     subst (after w (formed (column, name_index_value k)) (k (at column n) index v)) (sym (index_value_text w (n ++ []) (decimal index) (spelled_value v)))
     (with_in w column (λ m iv. k m iv.0 iv.1) index_value spelled_index_value n (index, v) h
-    (decimal index, 32 ∷ spelled_value v, short_in index g, behind_in (codes " ") (value 64) v (spelled_value v) (value_in v s), append_assoc (decimal index) (codes " ") (spelled_value v)))
+    (decimal index, 32 ∷ spelled_value v, short_in index g, after_in (codes " ") (value 64) v (spelled_value v) (value_in v s), append_assoc (decimal index) (codes " ") (spelled_value v)))
 
 members_in : (ns : List Named) → AllByRecursion IsNamed ns → members (names_of ns) (spelled_names ns)
 members_in [] h = refl
-members_in (n ∷ ns) h = (32 ∷ n.name, spelled_names ns, behind_in (codes " ") name n.name n.name (h.0, refl), members_in ns h.1, refl)
+members_in (n ∷ ns) h = (32 ∷ n.name, spelled_names ns, after_in (codes " ") name n.name n.name (h.0, refl), members_in ns h.1, refl)
 
 may_in : (ns : List Named) → AllByRecursion IsNamed ns → optional [] may_part (names_of ns) (spelled_may ns)
 may_in [] h = inr (tt, refl, refl)
@@ -105,12 +105,12 @@ may_in (n ∷ ns) h = inl ((tt, n.name ∷ names_of ns), (codes " may ", n.name 
 
 composite_in : (n : Named) (ms may : List Named) → IsNamed n → AllByRecursion IsNamed ms → AllByRecursion IsNamed may → after (codes "composite ") (formed (11, composed)) (placed (line.Composite n ms may)) (spelled_line (line.Composite n ms may))
 composite_in n ms may h g f =
-    behind_in (codes "composite ") (formed (11, composed)) (placed (line.Composite n ms may)) ((n.name ++ spelled_names ms) ++ spelled_may may)
+    after_in (codes "composite ") (formed (11, composed)) (placed (line.Composite n ms may)) ((n.name ++ spelled_names ms) ++ spelled_may may)
     ((n.name, (names_of ms, names_of may)), (n.name, spelled_names ms ++ spelled_may may, (h, refl), (spelled_names ms, spelled_may may, members_in ms g, may_in may f, refl), append_assoc n.name (spelled_names ms) (spelled_may may)), refl)
 
 others_in : (ns : List Named) → AllByRecursion IsNamed ns → many (after (codes ",") name) (names_of ns) (spelled_others ns)
 others_in [] h = refl
-others_in (n ∷ ns) h = (44 ∷ n.name, spelled_others ns, behind_in (codes ",") name n.name n.name (h.0, refl), others_in ns h.1, refl)
+others_in (n ∷ ns) h = (44 ∷ n.name, spelled_others ns, after_in (codes ",") name n.name n.name (h.0, refl), others_in ns h.1, refl)
 
 abbrev spelled_echo : Bool → List ℕ
 spelled_echo e = if e then codes " echo" else []
@@ -121,9 +121,9 @@ echo_in false = inr (tt, refl, refl)
 
 endings_in : (ns : List Named) (e : Bool) → AllByRecursion IsNamed ns → endings (names_of ns, e) (spelled_after ns ++ spelled_echo e)
 endings_in [] false h = inr (tt, refl, refl)
-endings_in [] true h = inl (inr (inl (behind_in (codes " echo") (ending only_echo) ([], true) [] (tt, refl, refl))))
+endings_in [] true h = inl (inr (inl (after_in (codes " echo") (ending only_echo) ([], true) [] (tt, refl, refl))))
 endings_in (n ∷ ns) e h =
-    inl (inl (behind_in (codes " after ") (ending after_names) (n.name ∷ names_of ns, e) ((n.name ++ spelled_others ns) ++ spelled_echo e)
+    inl (inl (after_in (codes " after ") (ending after_names) (n.name ∷ names_of ns, e) ((n.name ++ spelled_others ns) ++ spelled_echo e)
     (n.name ++ spelled_others ns, spelled_echo e, ((n.name, names_of ns), (n.name, spelled_others ns, (h.0, refl), others_in ns h.1, refl), refl), echo_in e, refl)))
 
 -- the text of a listener, as it is spelled and as its grammar cuts it
@@ -141,7 +141,7 @@ listen_text n m a e =
 listen_in : (n m : Named) (others : List Named) (e : Bool) → IsNamed n → IsNamed m → AllByRecursion IsNamed others → after (codes "listen ") (formed (8, listened)) (placed (line.Listen n m others e)) (spelled_line (line.Listen n m others e))
 listen_in n m others e h g f =
     let ends = spelled_after others ++ spelled_echo e in
-    behind_in (codes "listen ") (formed (8, listened)) (placed (line.Listen n m others e)) (((((n.name ++ []) ++ codes " on") ++ 32 ∷ (m.name ++ [])) ++ spelled_after others) ++ spelled_echo e) (
+    after_in (codes "listen ") (formed (8, listened)) (placed (line.Listen n m others e)) (((((n.name ++ []) ++ codes " on") ++ 32 ∷ (m.name ++ [])) ++ spelled_after others) ++ spelled_echo e) (
       (n.name, (m.name, (names_of others, e))),
       (
         n.name,

@@ -1,7 +1,7 @@
 -- The grammar of the lines of a plan's text. Names stand in a line with the column of their first byte.
 use Rattle.std.specs.Prelude.{◌+◌, ℕ, Bool, true, false, List, [], ◌∷◌, length, codes}
 use Rattle.spec_value.specs.Tree.{Tree}
-use Rattle.spec_grammar.specs.Grammar.{Grammar, empty, word, both, mapped, optional, after, apart, many, listed, words}
+use Rattle.spec_syntax.specs.Grammar.{Grammar, empty, word, both, mapped, optional, after, apart, many, listed, words}
 use Rattle.spec_lang.specs.declared.Bounds.{Bounds}
 use Rattle.spec_lang.specs.Sorting.{Key}
 use Rattle.spec_lang.specs.Func.{Func}
@@ -26,12 +26,12 @@ abbrev pub in_row : ℕ → List (List ℕ) → List Named
 in_row column [] = []
 in_row column (n ∷ ns) = at column n ∷ in_row (column + length n + 1) ns
 
--- the column behind names with one byte ahead of each
+-- the column after names with one byte ahead of each
 abbrev pub past : ℕ → List (List ℕ) → ℕ
 past column [] = column
 past column (n ∷ ns) = past (column + 1 + length n) ns
 
--- what stands behind the word of a line, by what the line is made of
+-- what stands after the word of a line, by what the line is made of
 pub data Form : Type 0 where
   bare : Line → Form
   limited : Form
@@ -57,9 +57,11 @@ pub data Form : Type 0 where
 abbrev pub with_name : {A : Type 0} → ℕ → (Named → A → Line) → Grammar A → Grammar Line
 with_name column k S = mapped (λ ab. k (at column ab.0) ab.1) (apart name (codes " ") S)
 
--- two names, each with a space behind it, and more
+-- two names, each with a space after it, and more
 abbrev pub with_names : {A : Type 0} → ℕ → (Named → Named → A → Line) → Grammar A → Grammar Line
-with_names column k S = mapped (λ abc. k (at column abc.0) (at (column + length abc.0 + 1) abc.1.0) abc.1.1) (apart name (codes " ") (apart name (codes " ") S))
+with_names column k S =
+    mapped (λ abc. k (at column abc.0) (at (column + length abc.0 + 1) abc.1.0) abc.1.1)
+    (apart name (codes " ") (apart name (codes " ") S))
 
 -- an index and a value
 abbrev pub index_value : Grammar (ℕ × Tree)
@@ -78,9 +80,10 @@ composite_part = both members (optional [] may_part)
 
 abbrev pub composite_line : ℕ → List ℕ × (List (List ℕ) × List (List ℕ)) → Line
 composite_line column c =
-    line.Composite (at column c.0) (in_row (column + length c.0 + 1) c.1.0) (in_row (past (column + length c.0) c.1.0 + 5) c.1.1)
+    line.Composite (at column c.0) (in_row (column + length c.0 + 1) c.1.0)
+    (in_row (past (column + length c.0) c.1.0 + 5) c.1.1)
 
--- what may stand behind the list of a listener
+-- what may stand after the list of a listener
 pub data Ending : Type 0 where
   after_names : Ending
   only_echo : Ending
@@ -101,14 +104,17 @@ endings = optional ([], false) (words ending ending_words)
 
 abbrev pub listen_line : ℕ → List ℕ × (List ℕ × (List (List ℕ) × Bool)) → Line
 listen_line column c =
-    line.Listen (at column c.0) (at (column + length c.0 + 4) c.1.0) (in_row (column + length c.0 + 4 + length c.1.0 + 7) c.1.1.0) c.1.1.1
+    line.Listen (at column c.0) (at (column + length c.0 + 4) c.1.0)
+    (in_row (column + length c.0 + 4 + length c.1.0 + 7) c.1.1.0) c.1.1.1
 
--- the lines of a form, behind their word, which ends ahead of this column
+-- the lines of a form, after their word, which ends ahead of this column
 abbrev pub formed : ℕ × Form → Grammar Line
 formed (column, bare l) = mapped (λ _. l) empty
 formed (column, limited) = mapped line.Limit (positive 16777216)
 formed (column, one_name k) = mapped (λ n. k (at column n)) name
-formed (column, two_names k) = mapped (λ ab. k (at column ab.0) (at (column + length ab.0 + 1) ab.1)) (apart name (codes " ") name)
+formed (column, two_names k) =
+    mapped (λ ab. k (at column ab.0) (at (column + length ab.0 + 1) ab.1))
+    (apart name (codes " ") name)
 formed (column, name_value k) = with_name column k (value 64)
 formed (column, name_values k) = with_name column k (bracketed (value 63))
 formed (column, name_matcher k) = with_name column k matcher
@@ -123,9 +129,10 @@ formed (column, names_bounds k) = with_names column k ranges.bounds
 formed (column, names_func k) = with_names column k (func 8)
 formed (column, names_path k) = with_names column k path
 formed (column, composed) = mapped (composite_line column) (both name composite_part)
-formed (column, listened) = mapped (listen_line column) (apart name (codes " on ") (both name endings))
+formed (column, listened) =
+    mapped (listen_line column) (apart name (codes " on ") (both name endings))
 
--- a row of the table: what stands behind the word begins in the column behind it
+-- a row of the table: what stands after the word begins in the column after it
 abbrev pub row : List ℕ → Form → List ℕ × (ℕ × Form)
 row w form = (w, (length w + 1, form))
 

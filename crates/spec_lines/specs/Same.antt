@@ -1,6 +1,6 @@
 -- Lines that are the same but for the columns of their names, and what the one spelling of a line is to be.
 use Rattle.std.specs.Prelude.{◌≡◌, ℕ, List, [], ◌∷◌}
-use Rattle.spec_grammar.specs.Language.{Spell}
+use Rattle.spec_syntax.specs.Language.{Spell}
 use Rattle.spec_lines.specs.Line.{at, line_of_text}
 use Rattle.spec_lines.specs.Spelled.{spelled_line}
 use Rattle.gl_lines.specs.declared.named.Named.{Named}
@@ -29,11 +29,13 @@ unplaced (line.Grouping name input order) = line.Grouping (moved name) (moved in
 unplaced (line.Range name input bounds) = line.Range (moved name) (moved input) bounds
 unplaced (line.Function name input func) = line.Function (moved name) (moved input) func
 unplaced (line.Collection name input kids) = line.Collection (moved name) (moved input) kids
-unplaced (line.Composite name members may) = line.Composite (moved name) (all_moved members) (all_moved may)
+unplaced (line.Composite name members may) =
+    line.Composite (moved name) (all_moved members) (all_moved may)
 unplaced (line.Transaction name input) = line.Transaction (moved name) (moved input)
 unplaced (line.Freezable name input) = line.Freezable (moved name) (moved input)
 unplaced (line.Proxy name input) = line.Proxy (moved name) (moved input)
-unplaced (line.Listen name list after echo) = line.Listen (moved name) (moved list) (all_moved after) echo
+unplaced (line.Listen name list after echo) =
+    line.Listen (moved name) (moved list) (all_moved after) echo
 unplaced line.Writer = line.Writer
 unplaced line.Section = line.Section
 unplaced (line.Add list value) = line.Add (moved list) value

@@ -42,11 +42,13 @@ IsWithin (line.Grouping name input order) = IsNamed name × IsNamed input × IsO
 IsWithin (line.Range name input bounds) = IsNamed name × IsNamed input × IsBounds bounds
 IsWithin (line.Function name input func) = IsNamed name × IsNamed input × IsFunc 8 func
 IsWithin (line.Collection name input path) = IsNamed name × IsNamed input × IsPath path
-IsWithin (line.Composite name members may) = IsNamed name × AllByRecursion IsNamed members × AllByRecursion IsNamed may
+IsWithin (line.Composite name members may) =
+    IsNamed name × AllByRecursion IsNamed members × AllByRecursion IsNamed may
 IsWithin (line.Transaction name input) = IsNamed name × IsNamed input
 IsWithin (line.Freezable name input) = IsNamed name × IsNamed input
 IsWithin (line.Proxy name input) = IsNamed name × IsNamed input
-IsWithin (line.Listen name list after echo) = IsNamed name × IsNamed list × AllByRecursion IsNamed after
+IsWithin (line.Listen name list after echo) =
+    IsNamed name × IsNamed list × AllByRecursion IsNamed after
 IsWithin line.Writer = Unit {0}
 IsWithin line.Section = Unit {0}
 IsWithin (line.Add list value) = IsNamed list × IsLiteral value

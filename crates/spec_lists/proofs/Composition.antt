@@ -2,11 +2,11 @@
 use Rattle.std.proofs.Common.{◌≡◌, ◌∙◌, ℕ, suc, ◌+◌, ◌<◌, ◌≤◌, List, [], ◌∷◌, map, length, get_or, refl, ap, sym, subst, arith}
 use Rattle.std.proofs.lemmas.List.{get_or-map}
 use Rattle.spec_value.specs.Tree.{Tree}
-use Rattle.spec_lists.specs.Piece.{Piece, kept, updated, deleted, inserted, turned, old_len, new_len, normal}
+use Rattle.spec_lists.specs.Piece.{Piece, kept, updated, deleted, inserted, inverted, old_len, new_len, normal}
 use Rattle.spec_lists.specs.Sides.{Item, plain, changed, lone, carry, through, Sides, olds, news, sides, compose, swapped, pieces_of}
 use Rattle.spec_lists.specs.Delta.{composed, inverse}
 use Rattle.spec_lists.specs.Laws.{CompositionIsAssociative, IdentityIsNeutral, InverseOfComposition}
-use Rattle.spec_lists.proofs.Normal.{pieces_of-sides, sides-normal, normal_is, turned-turned}
+use Rattle.spec_lists.proofs.Normal.{pieces_of-sides, sides-normal, normal_is, inverted-inverted, sides_from}
 use Rattle.spec_lists.proofs.Merge.{Merge, merge_of, Merge-left, Merge-right, compose_merge, composed_merge}
 
 -- each item that has a partner has it below n
@@ -56,9 +56,6 @@ through_both (changed j v ∷ xs) q r h = cons _ _ _ _ (through-carry r v (get_o
     cons a b us vs e f = cc
 through_both (lone v ∷ xs) q r h = ap (λ ys. lone v ∷ ys) (through_both xs q r h)
 
-sides_from : (a b c d : List Item) → a ≡ c → b ≡ d → let s : Sides = record { old = a; new = b } in let t : Sides = record { old = c; new = d } in s ≡ t
-sides_from a b c d e f = cc
-
 at_length : (n m : ℕ) (xs : List Item) → n ≡ m → PointsBelow n xs → PointsBelow m xs
 at_length n m xs e h = let P : ℕ → Type 0 = λ k. PointsBelow k xs in subst P e h
 
@@ -66,8 +63,8 @@ at_length n m xs e h = let P : ℕ → Type 0 = λ k. PointsBelow k xs in subst 
 compose_assoc : (p q r : List Piece) → new_len p ≡ old_len q → new_len q ≡ old_len r → compose (compose (sides p) (sides q)) (sides r) ≡ compose (sides p) (compose (sides q) (sides r))
 compose_assoc p q r e f =
     let n : PointsBelow (length (olds 0 q)) (olds 0 p) = at_length _ _ (olds 0 p) (e ∙ sym (length-olds q 0)) (olds_point p 0 (new_len p) (omega arith)) in
-    let twice : new_len (map turned r) ≡ old_len r = ap old_len (turned-turned r) in
-    let m : PointsBelow (length (news 0 q)) (news 0 r) = at_length _ _ (olds 0 (map turned r)) (twice ∙ (sym f ∙ sym (length-olds (map turned q) 0))) (olds_point (map turned r) 0 (new_len (map turned r)) (omega arith)) in
+    let twice : new_len (map inverted r) ≡ old_len r = ap old_len (inverted-inverted r) in
+    let m : PointsBelow (length (news 0 q)) (news 0 r) = at_length _ _ (olds 0 (map inverted r)) (twice ∙ (sym f ∙ sym (length-olds (map inverted q) 0))) (olds_point (map inverted r) 0 (new_len (map inverted r)) (omega arith)) in
     sides_from _ _ _ _ (through_both (olds 0 p) (olds 0 q) (olds 0 r) n) (sym (through_both (news 0 r) (news 0 q) (news 0 p) m))
 
 -- deltas that fit together compose to a delta: its sides are the composition of theirs
@@ -84,15 +81,15 @@ composition_is_associative p q r e f =
 pub identity_is_neutral : IdentityIsNeutral
 identity_is_neutral p h = (composed_merge (Merge-left p) ∙ normal_is p h, composed_merge (Merge-right p) ∙ normal_is p h)
 
-sides-turned : (p : List Piece) → sides (map turned p) ≡ swapped (sides p)
-sides-turned p = sides_from _ _ _ _ refl (ap (olds 0) (turned-turned p))
+sides-inverted : (p : List Piece) → sides (map inverted p) ≡ swapped (sides p)
+sides-inverted p = sides_from _ _ _ _ refl (ap (olds 0) (inverted-inverted p))
 
 -- the inverse is the pieces turned, in normal form
-pub inverse_is : (p : List Piece) → inverse p ≡ normal (map turned p)
-inverse_is p = ap pieces_of (sym (sides-turned p)) ∙ pieces_of-sides (map turned p)
+pub inverse_is : (p : List Piece) → inverse p ≡ normal (map inverted p)
+inverse_is p = ap pieces_of (sym (sides-inverted p)) ∙ pieces_of-sides (map inverted p)
 
 pub sides_inverse : (p : List Piece) → sides (inverse p) ≡ swapped (sides p)
-sides_inverse p = ap sides (inverse_is p) ∙ (sides-normal (map turned p) ∙ sides-turned p)
+sides_inverse p = ap sides (inverse_is p) ∙ (sides-normal (map inverted p) ∙ sides-inverted p)
 
 pub inverse_of_composition : InverseOfComposition
 inverse_of_composition p q e =

@@ -1,12 +1,12 @@
 -- How long the lists of compositions are.
 use Rattle.std.proofs.Common.{◌≡◌, ◌∙◌, ℕ, zero, suc, ◌+◌, ◌-◌, ◌<◌, ◌≤◌, List, ◌∷◌, map, length, refl, ap, arith}
 use Rattle.spec_value.specs.Tree.{Tree}
-use Rattle.spec_lists.specs.Piece.{Piece, updated, deleted, inserted, turned, identity, old_len, new_len}
+use Rattle.spec_lists.specs.Piece.{Piece, updated, deleted, inserted, inverted, identity, old_len, new_len}
 use Rattle.spec_lists.specs.Delta.{composed, inverse, one_insert, one_set, one_remove}
-use Rattle.spec_lists.proofs.Normal.{old_len-normal, new_len-normal, turned-turned}
-use Rattle.spec_lists.proofs.Merge.{Merge, merge_of, composed_merge, Merge-turned, done, gone, come, keep_keep, keep_set, keep_drop, set_keep, set_set, set_drop, new_keep, new_set, new_drop}
+use Rattle.spec_lists.proofs.Normal.{old_len-normal, new_len-normal, inverted-inverted}
+use Rattle.spec_lists.proofs.Merge.{Merge, merge_of, composed_merge, Merge-inverted, done, gone, come, keep_keep, keep_set, keep_drop, set_keep, set_set, set_drop, new_keep, new_set, new_drop}
 use Rattle.spec_lists.proofs.Composition.{inverse_is}
-use Rattle.spec_lists.proofs.Changing.{old_len-append, new_len-append}
+use Rattle.spec_lists.proofs.DeltaChanges.{old_len-append, new_len-append}
 
 pub old_len-merge : {p q m : List Piece} → Merge p q m → old_len m ≡ old_len p
 old_len-merge done = refl
@@ -23,7 +23,7 @@ old_len-merge (new_set h) = old_len-merge h
 old_len-merge (new_drop h) = old_len-merge h
 
 pub new_len-merge : {p q m : List Piece} → Merge p q m → new_len m ≡ new_len q
-new_len-merge h = old_len-merge (Merge-turned h)
+new_len-merge h = old_len-merge (Merge-inverted h)
 
 -- a composition leads from the first list to the last
 pub old_len-composed : (p q : List Piece) → new_len p ≡ old_len q → old_len (composed p q) ≡ old_len p
@@ -37,10 +37,10 @@ new_len-composed p q e =
     ap new_len (composed_merge h.1) ∙ (new_len-normal h.0 ∙ new_len-merge h.1)
 
 pub old_len-inverse : (p : List Piece) → old_len (inverse p) ≡ new_len p
-old_len-inverse p = ap old_len (inverse_is p) ∙ old_len-normal (map turned p)
+old_len-inverse p = ap old_len (inverse_is p) ∙ old_len-normal (map inverted p)
 
 pub new_len-inverse : (p : List Piece) → new_len (inverse p) ≡ old_len p
-new_len-inverse p = ap new_len (inverse_is p) ∙ (new_len-normal (map turned p) ∙ ap old_len (turned-turned p))
+new_len-inverse p = ap new_len (inverse_is p) ∙ (new_len-normal (map inverted p) ∙ ap old_len (inverted-inverted p))
 
 pub old_len-identity : (n : ℕ) → old_len (identity n) ≡ n
 old_len-identity zero = refl

@@ -1,10 +1,10 @@
 -- The pieces of two deltas told in one: the relation by which compositions are built and taken apart.
 use Rattle.std.proofs.Common.{◌≡◌, ◌∙◌, ℕ, zero, suc, ◌+◌, ◌≤◌, List, [], ◌∷◌, ◌++◌, map, length, drop, get_or, refl, ap, arith}
 use Rattle.spec_value.specs.Tree.{Tree}
-use Rattle.spec_lists.specs.Piece.{Piece, kept, updated, deleted, inserted, turned, identity, old_len, new_len, normal}
+use Rattle.spec_lists.specs.Piece.{Piece, kept, updated, deleted, inserted, inverted, identity, old_len, new_len, normal}
 use Rattle.spec_lists.specs.Sides.{Item, lone, carry, through, Sides, olds, news, sides, compose, pieces_of}
 use Rattle.spec_lists.specs.Delta.{composed}
-use Rattle.spec_lists.proofs.Normal.{pieces_of-sides}
+use Rattle.spec_lists.proofs.Normal.{pieces_of-sides, sides_from}
 
 -- p, then q, is m: deletions of p and insertions of q stand as they are; else a new element of p is an old one of q
 pub data Merge : List Piece → List Piece → List Piece → Type 0 where
@@ -22,19 +22,19 @@ pub data Merge : List Piece → List Piece → List Piece → Type 0 where
   new_drop : {w x : Tree} {p q m : List Piece} → Merge p q m → Merge (inserted w ∷ p) (deleted x ∷ q) m
 
 -- the same, seen from the last list to the first
-pub Merge-turned : {p q m : List Piece} → Merge p q m → Merge (map turned q) (map turned p) (map turned m)
-Merge-turned done = done
-Merge-turned (gone h) = come (Merge-turned h)
-Merge-turned (come h) = gone (Merge-turned h)
-Merge-turned (keep_keep h) = keep_keep (Merge-turned h)
-Merge-turned (keep_set h) = set_keep (Merge-turned h)
-Merge-turned (keep_drop h) = new_keep (Merge-turned h)
-Merge-turned (set_keep h) = keep_set (Merge-turned h)
-Merge-turned (set_set h) = set_set (Merge-turned h)
-Merge-turned (set_drop h) = new_set (Merge-turned h)
-Merge-turned (new_keep h) = keep_drop (Merge-turned h)
-Merge-turned (new_set h) = set_drop (Merge-turned h)
-Merge-turned (new_drop h) = new_drop (Merge-turned h)
+pub Merge-inverted : {p q m : List Piece} → Merge p q m → Merge (map inverted q) (map inverted p) (map inverted m)
+Merge-inverted done = done
+Merge-inverted (gone h) = come (Merge-inverted h)
+Merge-inverted (come h) = gone (Merge-inverted h)
+Merge-inverted (keep_keep h) = keep_keep (Merge-inverted h)
+Merge-inverted (keep_set h) = set_keep (Merge-inverted h)
+Merge-inverted (keep_drop h) = new_keep (Merge-inverted h)
+Merge-inverted (set_keep h) = keep_set (Merge-inverted h)
+Merge-inverted (set_set h) = set_set (Merge-inverted h)
+Merge-inverted (set_drop h) = new_set (Merge-inverted h)
+Merge-inverted (new_keep h) = keep_drop (Merge-inverted h)
+Merge-inverted (new_set h) = set_drop (Merge-inverted h)
+Merge-inverted (new_drop h) = new_drop (Merge-inverted h)
 
 pub Merge-append : {p q m p' q' m' : List Piece} → Merge p q m → Merge p' q' m' → Merge (p ++ p') (q ++ q') (m ++ m')
 Merge-append done k = k
@@ -91,7 +91,7 @@ merge_of (suc n) (inserted w ∷ p) (kept ∷ q) s e = let h : (m : List Piece) 
 merge_of (suc n) (inserted w ∷ p) (updated x y ∷ q) s e = let h : (m : List Piece) × Merge p q m = merge_of n p q (omega arith) (omega arith) in (inserted y ∷ h.0, new_set h.1)
 merge_of (suc n) (inserted w ∷ p) (deleted x ∷ q) s e = let h : (m : List Piece) × Merge p q m = merge_of n p q (omega arith) (omega arith) in (h.0, new_drop h.1)
 
--- what stands at a place, and what stands behind it
+-- what stands at a place, and what stands after it
 at_drop : (xs : List Item) (j : ℕ) (x : Item) (r : List Item) (d : Item) → drop j xs ≡ x ∷ r → get_or xs j d ≡ x
 at_drop [] zero x r d e = cc
 at_drop [] (suc j) x r d e = cc
@@ -122,12 +122,9 @@ olds_merge (new_keep h) all j k e = olds_merge h all (suc j) (suc k) (drop_on al
 olds_merge (new_set h) all j k e = olds_merge h all (suc j) (suc k) (drop_on all j _ _ e)
 olds_merge (new_drop h) all j k e = olds_merge h all (suc j) k (drop_on all j _ _ e)
 
-sides_from : (a b c d : List Item) → a ≡ c → b ≡ d → let s : Sides = record { old = a; new = b } in let t : Sides = record { old = c; new = d } in s ≡ t
-sides_from a b c d e f = cc
-
 -- the sides of what is told in one are the composition of the sides
 pub compose_merge : {p q m : List Piece} → Merge p q m → compose (sides p) (sides q) ≡ sides m
-compose_merge {p = p} {q = q} h = sides_from _ _ _ _ (olds_merge h (olds 0 q) 0 0 refl) (olds_merge (Merge-turned h) (news 0 p) 0 0 refl)
+compose_merge {p = p} {q = q} h = sides_from _ _ _ _ (olds_merge h (olds 0 q) 0 0 refl) (olds_merge (Merge-inverted h) (news 0 p) 0 0 refl)
 
 -- so the composition is what is told in one, in normal form
 pub composed_merge : {p q m : List Piece} → Merge p q m → composed p q ≡ normal m

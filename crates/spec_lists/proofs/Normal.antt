@@ -1,15 +1,15 @@
 -- The pieces of two sides: what the sides of pieces weave is the pieces in normal form.
 use Rattle.std.proofs.Common.{◌≡◌, ◌∙◌, ℕ, suc, List, [], ◌∷◌, map, refl, ap, sym}
 use Rattle.spec_value.specs.Tree.{Tree}
-use Rattle.spec_lists.specs.Piece.{Piece, kept, updated, deleted, inserted, turned, BeginsUndeleted, IsNormal, insert_first, normal, new_len, old_len}
+use Rattle.spec_lists.specs.Piece.{Piece, kept, updated, deleted, inserted, inverted, BeginsUndeleted, IsNormal, insert_first, normal, new_len, old_len}
 use Rattle.spec_lists.specs.Sides.{Item, plain, changed, lone, Sides, olds, news, sides, woven, pieces_of}
 
-pub turned-turned : (ps : List Piece) → map turned (map turned ps) ≡ ps
-turned-turned [] = refl
-turned-turned (kept ∷ ps) = ap (λ qs. kept ∷ qs) (turned-turned ps)
-turned-turned (updated v w ∷ ps) = ap (λ qs. updated v w ∷ qs) (turned-turned ps)
-turned-turned (deleted v ∷ ps) = ap (λ qs. deleted v ∷ qs) (turned-turned ps)
-turned-turned (inserted w ∷ ps) = ap (λ qs. inserted w ∷ qs) (turned-turned ps)
+pub inverted-inverted : (ps : List Piece) → map inverted (map inverted ps) ≡ ps
+inverted-inverted [] = refl
+inverted-inverted (kept ∷ ps) = ap (λ qs. kept ∷ qs) (inverted-inverted ps)
+inverted-inverted (updated v w ∷ ps) = ap (λ qs. updated v w ∷ qs) (inverted-inverted ps)
+inverted-inverted (deleted v ∷ ps) = ap (λ qs. deleted v ∷ qs) (inverted-inverted ps)
+inverted-inverted (inserted w ∷ ps) = ap (λ qs. inserted w ∷ qs) (inverted-inverted ps)
 
 -- an insertion adds no old element, wherever among deletions it is put
 pub olds-insert_first : (w : Tree) (ps : List Piece) (j : ℕ) → olds j (insert_first w ps) ≡ olds (suc j) ps
@@ -41,14 +41,14 @@ news-normal (updated v w ∷ ps) i = ap (λ xs. changed i w ∷ xs) (news-normal
 news-normal (deleted v ∷ ps) i = news-normal ps (suc i)
 news-normal (inserted w ∷ ps) i = news-insert_first w (normal ps) i ∙ ap (λ xs. lone w ∷ xs) (news-normal ps i)
 
-sides_from : (a b c d : List Item) → a ≡ c → b ≡ d → let s : Sides = record { old = a; new = b } in let t : Sides = record { old = c; new = d } in s ≡ t
+pub sides_from : (a b c d : List Item) → a ≡ c → b ≡ d → let s : Sides = record { old = a; new = b } in let t : Sides = record { old = c; new = d } in s ≡ t
 sides_from a b c d e f = cc
 
 -- normal form changes neither side
 pub sides-normal : (ps : List Piece) → sides (normal ps) ≡ sides ps
 sides-normal ps = sides_from _ _ _ _ (olds-normal ps 0) (news-normal ps 0)
 
--- a lone new element in front is an insertion behind the deletions
+-- a lone new element in front is an insertion after the deletions
 woven_lone : (w : Tree) (xs ys : List Item) → woven xs (lone w ∷ ys) ≡ insert_first w (woven xs ys)
 woven_lone w [] [] = refl
 woven_lone w [] (plain i ∷ ys) = refl
@@ -75,7 +75,7 @@ woven_sides (inserted w ∷ ps) i j = woven_lone w (olds (suc j) ps) (news i ps)
 pub pieces_of-sides : (ps : List Piece) → pieces_of (sides ps) ≡ normal ps
 pieces_of-sides ps = woven_sides ps 0 0
 
--- an insertion in front of what begins with no deletion stays there
+-- an insertion before what begins with no deletion stays there
 pub insert_first_is : (w : Tree) (ps : List Piece) → BeginsUndeleted ps → insert_first w ps ≡ inserted w ∷ ps
 insert_first_is w [] h = refl
 insert_first_is w (kept ∷ ps) h = refl

@@ -4,7 +4,7 @@ use Rattle.std.specs.Prelude.{Some, nat_le}
 use Rattle.std.proofs.lemmas.Bool.Decides.{nat_tests}
 use Rattle.std.specs.Cmp.{tied_itself}
 use Rattle.spec_value.specs.Tree.{Tree}
-use Rattle.spec_value.proofs.OrderLaws.{cmp_total}
+use Rattle.spec_value.proofs.Order.{cmp_total}
 use Rattle.spec_lists.specs.Piece.{kept, identity}
 use Rattle.spec_lists.specs.Pairs.{Pair, pairs_from, pairs}
 use Rattle.spec_lists.specs.Making.{replaced, is_same, next_piece, told_to, rest_after, pieces_from, pieces_by}
@@ -35,7 +35,7 @@ pub same_itself : (x : Tree) → is_same x x ≡ true
 same_itself x = rw (tied_itself cmp_total x)
 
 kept_here : (x : Tree) (xs : List Tree) (at : ℕ)
-    → next_piece (record { old_place = at; new_place = at; old = x ∷ xs; new = x ∷ xs }) (record { old = at; new = at; updated = false })
+    → next_piece (record { old_position = at; new_position = at; old = x ∷ xs; new = x ∷ xs }) (record { old = at; new = at; updated = false })
     ≡ Some kept
 kept_here x xs at =
     let here : nat_le at at ≡ true = grind (arith, nat_tests) in
@@ -43,14 +43,14 @@ kept_here x xs at =
     rw (here, none, same_itself x) refl
 
 stays_from : (xs : List Tree) (at : ℕ)
-    → pieces_from (record { old_place = at; new_place = at; old = xs; new = xs }) (plains at (length xs))
+    → pieces_from (record { old_position = at; new_position = at; old = xs; new = xs }) (plains at (length xs))
     ≡ identity (length xs)
 stays_from [] at = refl
 stays_from (x ∷ xs) at =
     let none : at - at ≡ 0 = omega arith in
-    ap (λ o. told_to (record { old_place = at; new_place = at; old = x ∷ xs; new = x ∷ xs }) (record { old = at; new = at; updated = false }) o
-    ++ pieces_from (rest_after (record { old_place = at; new_place = at; old = x ∷ xs; new = x ∷ xs }) (record { old = at; new = at; updated = false }) o) (plains (suc at) (length xs))) (kept_here x xs at)
-    ∙ ap (λ k. (replaced (take k (x ∷ xs)) (take k (x ∷ xs)) ++ kept ∷ []) ++ pieces_from (record { old_place = suc at; new_place = suc at; old = drop (suc k) (x ∷ xs); new = drop (suc k) (x ∷ xs) }) (plains (suc at) (length xs))) none
+    ap (λ o. told_to (record { old_position = at; new_position = at; old = x ∷ xs; new = x ∷ xs }) (record { old = at; new = at; updated = false }) o
+    ++ pieces_from (rest_after (record { old_position = at; new_position = at; old = x ∷ xs; new = x ∷ xs }) (record { old = at; new = at; updated = false }) o) (plains (suc at) (length xs))) (kept_here x xs at)
+    ∙ ap (λ k. (replaced (take k (x ∷ xs)) (take k (x ∷ xs)) ++ kept ∷ []) ++ pieces_from (record { old_position = suc at; new_position = suc at; old = drop (suc k) (x ∷ xs); new = drop (suc k) (x ∷ xs) }) (plains (suc at) (length xs))) none
     ∙ ap (λ ps. kept ∷ ps) (stays_from xs (suc at))
 
 pub pieces_by_plains : (xs : List Tree) (ps : List Pair) → ps ≡ plains 0 (length xs)

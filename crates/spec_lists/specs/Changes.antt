@@ -41,7 +41,7 @@ changed_len (updated v w ∷ ps) = suc (changed_len ps)
 changed_len (deleted v ∷ ps) = suc (changed_len ps)
 changed_len (inserted w ∷ ps) = suc (changed_len ps)
 
--- the pieces behind so many changes
+-- the pieces after so many changes
 abbrev pub after_changes : ℕ → List Piece → List Piece
 after_changes zero ps = ps
 after_changes (suc n) [] = []
@@ -50,7 +50,7 @@ after_changes (suc n) (updated v w ∷ ps) = after_changes n ps
 after_changes (suc n) (deleted v ∷ ps) = after_changes n ps
 after_changes (suc n) (inserted w ∷ ps) = after_changes n ps
 
--- how many elements of the new list stand in front of those
+-- how many elements of the new list stand before those
 abbrev pub standing : ℕ → List Piece → ℕ
 standing zero ps = 0
 standing (suc n) [] = 0

@@ -1,7 +1,7 @@
 -- The two lists between which a delta leads.
 use Rattle.std.specs.Prelude.{◌≡◌, List, [], ◌∷◌, map}
 use Rattle.spec_value.specs.Tree.{Tree}
-use Rattle.spec_lists.specs.Piece.{Piece, kept, updated, deleted, inserted, turned}
+use Rattle.spec_lists.specs.Piece.{Piece, kept, updated, deleted, inserted, inverted}
 
 -- the list is one that the delta starts from: it has the old length, and the values that the delta tells
 abbrev pub LeadsFrom : List Piece → List Tree → Type 0
@@ -17,7 +17,7 @@ LeadsFrom (inserted w ∷ ps) xs = LeadsFrom ps xs
 
 -- the list is one that the delta ends at
 abbrev pub LeadsTo : List Piece → List Tree → Type 0
-LeadsTo ps ys = LeadsFrom (map turned ps) ys
+LeadsTo ps ys = LeadsFrom (map inverted ps) ys
 
 -- what the delta makes of a list that it starts from
 abbrev pub applied : List Piece → List Tree → List Tree
@@ -32,7 +32,7 @@ applied (inserted w ∷ ps) xs = w ∷ applied ps xs
 
 -- the list that the delta started from, where it ended at this one
 abbrev pub undone : List Piece → List Tree → List Tree
-undone ps ys = applied (map turned ps) ys
+undone ps ys = applied (map inverted ps) ys
 
 -- the delta leads from one list to the other: a kept pair has equal values, all others have those that the delta tells
 pub record IsDelta (ps : List Piece) (xs ys : List Tree) : Type 0 where

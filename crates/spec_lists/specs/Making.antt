@@ -24,43 +24,49 @@ piece_of false (Some x) (Some y) = if is_same x y then Some kept else None
 
 -- the elements of two lists that stand from these places on
 pub record Rest : Type 0 where
-  pub old_place : ℕ
-  pub new_place : ℕ
+  pub old_position : ℕ
+  pub new_position : ℕ
   pub old : List Tree
   pub new : List Tree
 
 -- the piece of a pair, if both of its elements are left
 abbrev pub next_piece : Rest → Pair → Option Piece
 next_piece r p =
-    if nat_le r.old_place p.old && nat_le r.new_place p.new
-    then piece_of p.updated (slice_get r.old (p.old - r.old_place)) (slice_get r.new (p.new - r.new_place))
+    if nat_le r.old_position p.old && nat_le r.new_position p.new
+    then piece_of p.updated (slice_get r.old (p.old - r.old_position))
+    (slice_get r.new (p.new - r.new_position))
     else None
 
 -- what is told up to a pair and of it: elements before it without a pair are deleted, and inserted
 abbrev pub told_to : Rest → Pair → Option Piece → Delta
 told_to r p None = []
-told_to r p (Some piece) = replaced (take (p.old - r.old_place) r.old) (take (p.new - r.new_place) r.new) ++ piece ∷ []
+told_to r p (Some piece) =
+    replaced (take (p.old - r.old_position) r.old) (take (p.new - r.new_position) r.new)
+    ++ piece ∷ []
 
 -- what is left after it
 abbrev pub rest_after : Rest → Pair → Option Piece → Rest
 rest_after r p None = r
 rest_after r p (Some piece) = record {
-  old_place = suc p.old;
-  new_place = suc p.new;
-  old = drop (suc (p.old - r.old_place)) r.old;
-  new = drop (suc (p.new - r.new_place)) r.new;
+  old_position = suc p.old;
+  new_position = suc p.new;
+  old = drop (suc (p.old - r.old_position)) r.old;
+  new = drop (suc (p.new - r.new_position)) r.new;
 }
 
 abbrev pub pieces_from : Rest → List Pair → Delta
 pieces_from r [] = replaced r.old r.new
-pieces_from r (p ∷ ps) = told_to r p (next_piece r p) ++ pieces_from (rest_after r p (next_piece r p)) ps
+pieces_from r (p ∷ ps) =
+    told_to r p (next_piece r p) ++ pieces_from (rest_after r p (next_piece r p)) ps
 
 -- The delta from the list xs to the list ys with these pairs, whose places rise on both sides. What can be no pair of a
--- delta, behind those before it, is none of this one.
+-- delta, after those before it, is none of this one.
 abbrev pub pieces_by : List Tree → List Tree → List Pair → Delta
-pieces_by xs ys ps = pieces_from (record { old_place = 0; new_place = 0; old = xs; new = ys }) ps
+pieces_by xs ys ps =
+    pieces_from (record { old_position = 0; new_position = 0; old = xs; new = ys }) ps
 
 -- these are pairs of the elements that are left: their places rise on both sides, and plain ones have equal values
 abbrev pub ArePairs : Rest → List Pair → Type 0
 ArePairs r [] = ⊤
-ArePairs r (p ∷ ps) = (piece : Piece) × (next_piece r p ≡ Some piece) × ArePairs (rest_after r p (Some piece)) ps
+ArePairs r (p ∷ ps) =
+    (piece : Piece) × (next_piece r p ≡ Some piece) × ArePairs (rest_after r p (Some piece)) ps

@@ -12,8 +12,10 @@ pub record Pair : Type 0 where
 -- the pairs of these pieces, before which i old and j new elements stand
 abbrev pub pairs_from : ℕ → ℕ → List Piece → List Pair
 pairs_from i j [] = []
-pairs_from i j (kept ∷ ps) = record { old = i; new = j; updated = false } ∷ pairs_from (suc i) (suc j) ps
-pairs_from i j (updated v w ∷ ps) = record { old = i; new = j; updated = true } ∷ pairs_from (suc i) (suc j) ps
+pairs_from i j (kept ∷ ps) =
+    record { old = i; new = j; updated = false } ∷ pairs_from (suc i) (suc j) ps
+pairs_from i j (updated v w ∷ ps) =
+    record { old = i; new = j; updated = true } ∷ pairs_from (suc i) (suc j) ps
 pairs_from i j (deleted v ∷ ps) = pairs_from (suc i) j ps
 pairs_from i j (inserted w ∷ ps) = pairs_from i (suc j) ps
 
@@ -23,14 +25,18 @@ pairs ps = pairs_from 0 0 ps
 -- the pairs that a side tells: of the old elements from place i on, and of the new elements from place j on
 abbrev pub pairs_of_old : ℕ → List Item → List Pair
 pairs_of_old i [] = []
-pairs_of_old i (plain j ∷ xs) = record { old = i; new = j; updated = false } ∷ pairs_of_old (suc i) xs
-pairs_of_old i (changed j v ∷ xs) = record { old = i; new = j; updated = true } ∷ pairs_of_old (suc i) xs
+pairs_of_old i (plain j ∷ xs) =
+    record { old = i; new = j; updated = false } ∷ pairs_of_old (suc i) xs
+pairs_of_old i (changed j v ∷ xs) =
+    record { old = i; new = j; updated = true } ∷ pairs_of_old (suc i) xs
 pairs_of_old i (lone v ∷ xs) = pairs_of_old (suc i) xs
 
 abbrev pub pairs_of_new : ℕ → List Item → List Pair
 pairs_of_new j [] = []
-pairs_of_new j (plain i ∷ ys) = record { old = i; new = j; updated = false } ∷ pairs_of_new (suc j) ys
-pairs_of_new j (changed i w ∷ ys) = record { old = i; new = j; updated = true } ∷ pairs_of_new (suc j) ys
+pairs_of_new j (plain i ∷ ys) =
+    record { old = i; new = j; updated = false } ∷ pairs_of_new (suc j) ys
+pairs_of_new j (changed i w ∷ ys) =
+    record { old = i; new = j; updated = true } ∷ pairs_of_new (suc j) ys
 pairs_of_new j (lone w ∷ ys) = pairs_of_new (suc j) ys
 
 -- the pairs are strictly increasing on both sides, from these places on

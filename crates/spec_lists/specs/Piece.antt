@@ -14,11 +14,11 @@ pub data Piece : Type 0 where
   inserted : Tree → Piece
 
 -- the same seen from the new list to the old one
-abbrev pub turned : Piece → Piece
-turned kept = kept
-turned (updated v w) = updated w v
-turned (deleted v) = inserted v
-turned (inserted w) = deleted w
+abbrev pub inverted : Piece → Piece
+inverted kept = kept
+inverted (updated v w) = updated w v
+inverted (deleted v) = inserted v
+inverted (inserted w) = deleted w
 
 -- how many elements the old list has
 abbrev pub old_len : List Piece → ℕ
@@ -30,7 +30,7 @@ old_len (inserted w ∷ ps) = old_len ps
 
 -- how many elements the new list has
 abbrev pub new_len : List Piece → ℕ
-new_len ps = old_len (map turned ps)
+new_len ps = old_len (map inverted ps)
 
 -- the delta of a list of n elements that doesn't change
 abbrev pub identity : ℕ → List Piece
@@ -52,7 +52,7 @@ IsNormal (updated v w ∷ ps) = IsNormal ps
 IsNormal (deleted v ∷ ps) = IsNormal ps
 IsNormal (inserted w ∷ ps) = BeginsUndeleted ps × IsNormal ps
 
--- an insertion put in front, behind the deletions that stand there
+-- an insertion put in front, after the deletions that stand there
 abbrev pub insert_first : Tree → List Piece → List Piece
 insert_first w [] = inserted w ∷ []
 insert_first w (kept ∷ ps) = inserted w ∷ kept ∷ ps
@@ -92,4 +92,5 @@ from_stored-to_stored (inserted w) = refl
 
 abbrev pub piece_code : Coded Piece
 piece_code =
-    code_by Stored (coded_option (coded⊎ (coded× tree_code tree_code) (coded⊎ tree_code tree_code))) to_stored from_stored from_stored-to_stored
+    code_by Stored (coded_option (coded⊎ (coded× tree_code tree_code) (coded⊎ tree_code tree_code)))
+    to_stored from_stored from_stored-to_stored

@@ -1,7 +1,7 @@
 -- A delta seen from each of its two lists, and composition by going from partner to partner.
 use Rattle.std.specs.Prelude.{ℕ, suc, List, [], ◌∷◌, ◌++◌, map, slice_index_or}
 use Rattle.spec_value.specs.Tree.{Tree}
-use Rattle.spec_lists.specs.Piece.{Piece, kept, updated, deleted, inserted, turned}
+use Rattle.spec_lists.specs.Piece.{Piece, kept, updated, deleted, inserted, inverted}
 
 -- What an element of a list is in a delta: it has an equal partner at a place of the other list; or a partner there
 -- that has another value, where its own is this; or no partner, and its value is this.
@@ -25,7 +25,7 @@ olds j (inserted w ∷ ps) = olds (suc j) ps
 
 -- the new elements of these pieces, before which i elements of the old list stand
 abbrev pub news : ℕ → List Piece → List Item
-news i ps = olds i (map turned ps)
+news i ps = olds i (map inverted ps)
 
 abbrev pub sides : List Piece → Sides
 sides ps = record { old = olds 0 ps; new = news 0 ps }
@@ -57,7 +57,7 @@ inserted_first (plain i ∷ ys) = []
 inserted_first (changed i w ∷ ys) = []
 inserted_first (lone w ∷ ys) = inserted w ∷ inserted_first ys
 
--- the new elements behind the first one that has a partner
+-- the new elements after the first one that has a partner
 abbrev pub after_pair : List Item → List Item
 after_pair [] = []
 after_pair (plain i ∷ ys) = ys
@@ -76,7 +76,8 @@ paired_value v (lone w ∷ ys) = paired_value v ys
 abbrev pub woven : List Item → List Item → List Piece
 woven [] ys = inserted_first ys
 woven (plain j ∷ xs) ys = inserted_first ys ++ kept ∷ woven xs (after_pair ys)
-woven (changed j v ∷ xs) ys = inserted_first ys ++ updated v (paired_value v ys) ∷ woven xs (after_pair ys)
+woven (changed j v ∷ xs) ys =
+    inserted_first ys ++ updated v (paired_value v ys) ∷ woven xs (after_pair ys)
 woven (lone v ∷ xs) ys = deleted v ∷ woven xs ys
 
 abbrev pub pieces_of : Sides → List Piece

@@ -1,15 +1,15 @@
--- The order exists exactly where there is no cycle, and `turns` computes it.
+-- The order exists exactly where there is no cycle, and `dependency_order` computes it.
 use Rattle.std.proofs.Common.{◌≡◌, ℕ, zero, suc, ◌+◌, ◌<◌, ◌≤◌, ◌⊎◌, inl, inr, Bool, true, false, cond, not, ◌||◌, ◌&&◌, ◌==◌, ◌↔◌, List, [], ◌∷◌, ◌++◌, Option, Some, None, length, refl, sym, ap, ◌∙◌, subst, arith, length-append}
 use Rattle.std.specs.Prelude.{Contains}
 use Rattle.std.specs.List.{list_all}
 use Rattle.std.specs.Option.{MatchOption, option_to_list}
 use Rattle.std.proofs.lemmas.Bool.{cases_eq, cases_Bool, eq-eqb, ne_eqb, and_parts, not-true}
 use Rattle.spec_order.specs.Edges.{DependsOn, AreWithin}
-use Rattle.spec_order.specs.Order.{IsReady, IsNext, IsFront, IsOrder, HasOrder}
-use Rattle.spec_order.specs.Turns.{has, is_ready, first_from, next_turn, turns_after, turns}
+use Rattle.spec_order.specs.Order.{IsReady, IsNext, IsPrefix, IsOrder, HasOrder}
+use Rattle.spec_order.specs.DependencyOrder.{has, is_ready, first_from, next_turn, order_after, dependency_order}
 use Rattle.spec_order.specs.Cycle.{HasCycle}
 use Rattle.spec_order.proofs.Members.{Contains-cons_cases, Contains-here, Contains-later, Contains-nil, has-true, has-false, true_from_Contains}
-use Rattle.spec_order.proofs.Fronts.{front_push, front_nil, IsOrder-unique}
+use Rattle.spec_order.proofs.Prefixes.{prefix_push, prefix_nil, IsOrder-unique}
 use Rattle.spec_order.proofs.Acyclic.{acyclic_from_IsOrder}
 use Rattle.spec_order.proofs.Stuck.{cycle_from_stuck}
 
@@ -95,29 +95,29 @@ next_found n edges placed (Some k) h = record {
 }
 
 -- the turns from a front on are a longer front, and all n numbers unless there is a cycle
-turns_grow : (m n : ℕ) (edges : List (ℕ × ℕ)) (placed : List ℕ) → AreWithin n edges → IsFront n edges placed → length placed + m ≡ n → IsOrder n edges (turns_after m n edges placed) ⊎ HasCycle edges
-turns_grow zero n edges placed ends f e = inl (record { whole = omega arith; front = f })
-turns_grow (suc m) n edges placed ends f e =
-    grown (next_turn n edges placed) (next_found n edges placed (next_turn n edges placed) (first_found (is_ready edges placed) 0 n)) (λ k next. turns_grow m n edges (placed ++ k ∷ []) ends (front_push n edges placed k f next) (omega (arith, length-append placed (k ∷ []))))
+order_grow : (m n : ℕ) (edges : List (ℕ × ℕ)) (placed : List ℕ) → AreWithin n edges → IsPrefix n edges placed → length placed + m ≡ n → IsOrder n edges (order_after m n edges placed) ⊎ HasCycle edges
+order_grow zero n edges placed ends f e = inl (record { whole = omega arith; prefix = f })
+order_grow (suc m) n edges placed ends f e =
+    grown (next_turn n edges placed) (next_found n edges placed (next_turn n edges placed) (first_found (is_ready edges placed) 0 n)) (λ k next. order_grow m n edges (placed ++ k ∷ []) ends (prefix_push n edges placed k f next) (omega (arith, length-append placed (k ∷ []))))
   where
-    grown : (o : Option ℕ) → MatchOption o ((j : ℕ) → j < n → ¬ IsReady edges placed j) (IsNext n edges placed) → ((k : ℕ) → IsNext n edges placed k → IsOrder n edges (turns_after m n edges (placed ++ k ∷ [])) ⊎ HasCycle edges) → IsOrder n edges (turns_after m n edges (placed ++ option_to_list o)) ⊎ HasCycle edges
+    grown : (o : Option ℕ) → MatchOption o ((j : ℕ) → j < n → ¬ IsReady edges placed j) (IsNext n edges placed) → ((k : ℕ) → IsNext n edges placed k → IsOrder n edges (order_after m n edges (placed ++ k ∷ [])) ⊎ HasCycle edges) → IsOrder n edges (order_after m n edges (placed ++ option_to_list o)) ⊎ HasCycle edges
     grown None h later = inr (cycle_from_stuck n edges placed ends (omega arith) h)
     grown (Some k) h later = later k h
 
-pub order_or_cycle : (n : ℕ) (edges : List (ℕ × ℕ)) → AreWithin n edges → IsOrder n edges (turns n edges) ⊎ HasCycle edges
-order_or_cycle n edges ends = turns_grow n n edges [] ends (front_nil n edges) (omega arith)
+pub order_or_cycle : (n : ℕ) (edges : List (ℕ × ℕ)) → AreWithin n edges → IsOrder n edges (dependency_order n edges) ⊎ HasCycle edges
+order_or_cycle n edges ends = order_grow n n edges [] ends (prefix_nil n edges) (omega arith)
 
 -- the order exists exactly where there is no cycle
 pub order_exists : (n : ℕ) (edges : List (ℕ × ℕ)) → AreWithin n edges → HasOrder n edges ↔ (¬ HasCycle edges)
 order_exists n edges ends = (
   λ h. acyclic_from_IsOrder n edges (h.0) ends h.1,
-  λ free. elim (order_or_cycle n edges ends) as (λ _. HasOrder n edges) [ inl o ↦ (turns n edges, o) | inr c ↦ absurd (free c) ],
+  λ free. elim (order_or_cycle n edges ends) as (λ _. HasOrder n edges) [ inl o ↦ (dependency_order n edges, o) | inr c ↦ absurd (free c) ],
 )
 
--- any order is `turns`
-pub turns-from_IsOrder : (n : ℕ) (edges : List (ℕ × ℕ)) (xs : List ℕ) → AreWithin n edges → IsOrder n edges xs → xs ≡ turns n edges
-turns-from_IsOrder n edges xs ends o =
-    IsOrder-unique n edges xs (turns n edges) o (elim (order_or_cycle n edges ends) as (λ _. IsOrder n edges (turns n edges)) [
+-- any order is `dependency_order`
+pub dependency_order-from_IsOrder : (n : ℕ) (edges : List (ℕ × ℕ)) (xs : List ℕ) → AreWithin n edges → IsOrder n edges xs → xs ≡ dependency_order n edges
+dependency_order-from_IsOrder n edges xs ends o =
+    IsOrder-unique n edges xs (dependency_order n edges) o (elim (order_or_cycle n edges ends) as (λ _. IsOrder n edges (dependency_order n edges)) [
       | inl t ↦ t
       | inr c ↦ absurd (acyclic_from_IsOrder n edges xs ends o c)
     ])

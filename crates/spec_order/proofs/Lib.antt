@@ -1,6 +1,6 @@
 pub mod Acyclic
 pub mod Exists
-pub mod Fronts
+pub mod Prefixes
 pub mod Members
 pub mod Stuck
 pub mod Walks

@@ -42,9 +42,9 @@ pub record Through (edges : List (ℕ × ℕ)) (x n : ℕ) : Type 0 where
   pub walk : IsWalk edges x rest x
   pub size : n ≡ suc (length rest)
 
-pub turned : (edges : List (ℕ × ℕ)) (cycle : List ℕ) (x : ℕ) → IsCycle edges cycle → Contains cycle x → Through edges x (length cycle)
-turned edges [] x w h = absurd w
-turned edges (y ∷ ys) x w h =
+pub reversed : (edges : List (ℕ × ℕ)) (cycle : List ℕ) (x : ℕ) → IsCycle edges cycle → Contains cycle x → Through edges x (length cycle)
+reversed edges [] x w h = absurd w
+reversed edges (y ∷ ys) x w h =
     elim (Contains-cons_cases y ys x h) as (λ _. Through edges x (length (y ∷ ys))) [
       | inl e ↦ record { rest = ys; walk = subst (λ (z : ℕ). IsWalk edges z ys z) e w; size = refl }
       | inr k ↦
@@ -66,7 +66,7 @@ pub record IsFirstFrom (edges : List (ℕ × ℕ)) (x : ℕ) (xs : List ℕ) : T
 
 least_by_search : (edges : List (ℕ × ℕ)) (x : ℕ) (xs other : List ℕ) → IsFirstFrom edges x xs → IsCycle edges other → (y : ℕ) → Contains other y → x ≤ y
 least_by_search edges x xs other f c y h =
-    let t = turned edges other y c h in
+    let t = reversed edges other y c h in
     elim (cases_lt y x) as (λ _. x ≤ y) [ inl l ↦ absurd (f.none_below y l t.rest t.walk) | inr g ↦ g ]
 
 earliest_by_search : (edges : List (ℕ × ℕ)) (x : ℕ) (xs other : List ℕ) → IsFirstFrom edges x xs → IsCycle edges other → length other ≡ length (x ∷ xs) → IsNoLater (x ∷ xs) other
@@ -83,7 +83,7 @@ pub IsFirstCycle-from : (edges : List (ℕ × ℕ)) (x : ℕ) (xs : List ℕ) �
 IsFirstCycle-from edges x xs f = record {
   closed = f.walk;
   least = λ other c k d l. least_by_search edges x xs other f c (get_or other k d) (Contains-get_or other k d l);
-  fewest = λ other c h. let t = turned edges other x c h in omega (arith, f.shortest t.rest t.walk, t.size);
+  fewest = λ other c h. let t = reversed edges other x c h in omega (arith, f.shortest t.rest t.walk, t.size);
   earliest = λ other c h e. earliest_by_search edges x xs other f c e;
 }
 

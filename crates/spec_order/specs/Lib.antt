@@ -1,4 +1,4 @@
 pub mod Edges
 pub mod Order
-pub mod Turns
+pub mod DependencyOrder
 pub mod Cycle

@@ -15,13 +15,13 @@ pub record IsNext (n : ℕ) (edges : List (ℕ × ℕ)) (placed : List ℕ) (k :
   pub least : (j : ℕ) → j < k → ¬ IsReady edges placed j
 
 -- each place of xs holds what comes next after the places before it
-abbrev pub IsFront : ℕ → List (ℕ × ℕ) → List ℕ → Type 0
-IsFront n edges xs = (i : ℕ) → i < length xs → IsNext n edges (take i xs) (slice_index xs i)
+abbrev pub IsPrefix : ℕ → List (ℕ × ℕ) → List ℕ → Type 0
+IsPrefix n edges xs = (i : ℕ) → i < length xs → IsNext n edges (take i xs) (slice_index xs i)
 
 -- xs is the dependency order of the n numbers 0, 1, .. n - 1
 pub record IsOrder (n : ℕ) (edges : List (ℕ × ℕ)) (xs : List ℕ) : Type 0 where
   pub whole : length xs ≡ n
-  pub front : IsFront n edges xs
+  pub prefix : IsPrefix n edges xs
 
 -- some list is the dependency order
 abbrev pub HasOrder : ℕ → List (ℕ × ℕ) → Type 0

@@ -8,10 +8,10 @@ use Rattle.csv.specs.Reading.{AreRecords, Reached, default_config, strip_bom}
 use Rattle.csv.specs.declared.parser.Config.{Config}
 use Rattle.csv.specs.declared.parser.State.{State}
 use Rattle.csv.specs.declared.parser.State.TheVariants.{StartRecord}
-use Rattle.spec_value.specs.Tree.{Tree, num, text, items_of}
-use Rattle.spec_grammar.specs.Reader.{Verdict, read, fault, whole}
-use Rattle.spec_grammar.proofs.Reading.{no_more}
-use Rattle.spec_grammar.proofs.Wholes.{IsVerdict, verdict_of}
+use Rattle.spec_plans.specs.Tree.{Tree, num, text, items_of}
+use Rattle.spec_syntax.specs.Reader.{Verdict, read, fault, whole}
+use Rattle.spec_syntax.proofs.ReadSteps.{no_more}
+use Rattle.spec_syntax.proofs.Wholes.{IsVerdict, verdict_of}
 use Rattle.spec_syntax.specs.Number.{is_digit, number}
 use Rattle.spec_syntax.specs.ValueReader.{read_number}
 use Rattle.spec_syntax.specs.Value.{value}
@@ -19,8 +19,8 @@ use Rattle.spec_syntax.proofs.Limits.{value_within}
 use Rattle.spec_syntax.proofs.Numbers.{number_reads}
 use Rattle.spec_syntax.proofs.Spelled.{number_spelled}
 use Rattle.spec_syntax.proofs.Spellings.{number_is}
-use Rattle.spec_lines.proofs.Composites.{ends, none_behind}
-use Rattle.spec_csv.specs.Block.{SpellsNumber, IsField, AreFields, AreRows, BlockHas}
+use Rattle.spec_lines.proofs.Composites.{ends, nothing_follows}
+use Rattle.spec_syntax.specs.Block.{SpellsNumber, IsField, AreFields, AreRows, BlockHas}
 
 -- what is left after a record: fewer bytes, or none of a text that is at its end
 abbrev IsLess : List ℕ → Read → Type 0
@@ -37,7 +37,7 @@ less_more : (c : ℕ) (rest : List ℕ) (p : Read) → IsLess rest p → IsLess 
 less_more c rest p (inl l) = inl (omega arith)
 less_more c rest p (inr e) = inr e
 
--- what is read behind a byte that doesn't end the record
+-- what is read after a byte that doesn't end the record
 abbrev read_on : Config → State → List (List ℕ) → List ℕ → ℕ → List ℕ → Option Read
 read_on cfg s fields field c rest =
     let now = step cfg s c in
@@ -94,7 +94,7 @@ has_records (suc n) s xs l = by (next_record default_config s [] [] xs) refl (λ
 number_verdict : (bs : List ℕ) → IsVerdict number bs (whole (read_number bs))
 number_verdict bs =
     verdict_of number bs (read_number bs)
-    (number_reads (length bs) no_more none_behind (ends is_digit) bs (omega arith))
+    (number_reads (length bs) no_more nothing_follows (ends is_digit) bs (omega arith))
 
 number_fits : (n : ℤ) (bs : List ℕ) → number n bs → FitsSigned w64 n
 unfolding value

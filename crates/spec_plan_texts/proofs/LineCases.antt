@@ -4,12 +4,12 @@ use Rattle.std.specs.Prelude.{bytes_eq}
 use Rattle.std.proofs.lemmas.Bool.{cases_Bool, cases_eq}
 use Rattle.std.proofs.lemmas.Bool.Decides.{not_from_Decides}
 use Rattle.std.proofs.lemmas.Slice.Eq.{bytes_eq-Decides}
-use Rattle.spec_grammar.specs.Grammar.{Grammar}
-use Rattle.spec_grammar.specs.Language.{Spell, Leaves, SpellNone}
-use Rattle.spec_grammar.specs.Reader.{Step, found, stopped, fault}
-use Rattle.spec_grammar.proofs.Missed.{missed_most}
-use Rattle.spec_grammar.proofs.Reading.{no_more, IsStep}
-use Rattle.spec_grammar.proofs.Wholes.{IsVerdict, verdict_of}
+use Rattle.spec_syntax.specs.Grammar.{Grammar}
+use Rattle.spec_syntax.specs.Language.{Spell, Leaves, SpellNone}
+use Rattle.spec_syntax.specs.Reader.{Step, found, stopped, fault}
+use Rattle.spec_syntax.proofs.Missed.{missed_most}
+use Rattle.spec_syntax.proofs.ReadSteps.{no_more, IsStep}
+use Rattle.spec_syntax.proofs.Wholes.{IsVerdict, verdict_of}
 use Rattle.gl_lines.specs.declared.line.Line.{Line}
 use Rattle.spec_lines.specs.Line.{line_of_text}
 use Rattle.spec_lines.specs.Reader.{read_line}
@@ -58,9 +58,9 @@ spell_or_leave : {A : Type 0} (L : Grammar A) (bs : List ℕ) (st : Step A) → 
 spell_or_leave L bs (found a []) f = inl (a, verdict_of L bs (found a []) f)
 spell_or_leave L bs (found a (c ∷ rest)) f =
     let v : IsVerdict L bs (fault (length rest + 1)) = verdict_of L bs (found a (c ∷ rest)) f in
-    let column : length f.front + 1 + (length rest + 1) ≡ length bs + 1 =
-    omega (arith, ap length f.are, length-append f.front (c ∷ rest)) in
-    inr (length f.front + 1, record { none = v.0; at = v.1 (length f.front + 1) column })
+    let column : length f.prefix + 1 + (length rest + 1) ≡ length bs + 1 =
+    omega (arith, ap length f.are, length-append f.prefix (c ∷ rest)) in
+    inr (length f.prefix + 1, record { none = v.0; at = v.1 (length f.prefix + 1) column })
 spell_or_leave L bs (stopped left) f =
     let v : IsVerdict L bs (fault left) = verdict_of L bs (stopped left) f in
     let column : length bs + 1 - left + left ≡ length bs + 1 =

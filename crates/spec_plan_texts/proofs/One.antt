@@ -1,8 +1,8 @@
 -- The lines of a text come to one outcome.
 use Rattle.std.proofs.Common.{◌≡◌, ◌∙◌, ◌⊎◌, ℕ, suc, ◌+◌, ◌<◌, ◌≤◌, List, [], ◌∷◌, ◌++◌, length, codes, Option, Some, None, refl, sym, ap, subst, inl, inr, arith}
-use Rattle.spec_value.specs.Tree.{Tree}
-use Rattle.spec_csv.specs.Block.{BlockHas}
-use Rattle.spec_csv.proofs.One.{one_block}
+use Rattle.spec_plans.specs.Tree.{Tree}
+use Rattle.spec_syntax.specs.Block.{BlockHas}
+use Rattle.spec_syntax.proofs.OneBlock.{one_block}
 use Rattle.gl_lines.specs.declared.named.Named.{Named}
 use Rattle.gl_lines.specs.declared.line.Line.{Line}
 use Rattle.gl_lines.specs.declared.line.NumberedLine.{NumberedLine}
@@ -12,7 +12,7 @@ use Rattle.spec_plans.specs.Place.{place_fault}
 use Rattle.spec_plan_texts.specs.Reading.{Outcome, all_read, Mode, outside, inside, most_bytes, SpellsLine, LeavesLines, IsSkipped, numbered, fault, opened_by, rows_of, Comes, at_end, long, skipped, formless, misplaced, plain, opening, in_block, closing, endless}
 use Rattle.spec_plan_texts.proofs.LineCases.{one_line_spelled, one_column_left, spells_or_leaves, skipped_spells_none}
 
--- Behind a line that may stand where it stands: the line opens a block, or none.
+-- After a line that may stand where it stands: the line opens a block, or none.
 abbrev Opened : List NumberedLine → ℕ → Line → List (List ℕ) → Outcome → Option Named → Type 0
 Opened before n l raws out None = Comes outside (before ++ numbered n l ∷ []) (suc n) raws out
 Opened before n l raws out (Some named) = Comes (inside n named []) (before ++ numbered n l ∷ []) (suc n) raws out
@@ -61,27 +61,27 @@ cases_of (in_block e c) = inl (e, c)
 cases_of (closing {rows = rows} b c) = inr (refl, rows, b, c)
 cases_of endless = refl
 
--- the lines behind come to one outcome
-abbrev OneBehind : List (List ℕ) → Type 0
-OneBehind raws =
+-- the lines after come to one outcome
+abbrev OneAfter : List (List ℕ) → Type 0
+OneAfter raws =
     (mode : Mode) (before : List NumberedLine) (n : ℕ) (a b : Outcome)
     → Comes mode before n raws a → Comes mode before n raws b → a ≡ b
 
 one_opened : (before : List NumberedLine) (n : ℕ) (l : Line) (raws : List (List ℕ)) (a b : Outcome)
     (named : Option Named)
-    → OneBehind raws → Opened before n l raws a named → Opened before n l raws b named → a ≡ b
+    → OneAfter raws → Opened before n l raws a named → Opened before n l raws b named → a ≡ b
 one_opened before n l raws a b None one h k = one outside (before ++ numbered n l ∷ []) (suc n) a b h k
 one_opened before n l raws a b (Some named) one h k =
     one (inside n named []) (before ++ numbered n l ∷ []) (suc n) a b h k
 
 one_placed : (before : List NumberedLine) (n : ℕ) (l : Line) (raws : List (List ℕ)) (a b : Outcome)
     (bad : Option PlanKind)
-    → OneBehind raws → Placed before n l raws a bad → Placed before n l raws b bad → a ≡ b
+    → OneAfter raws → Placed before n l raws a bad → Placed before n l raws b bad → a ≡ b
 one_placed before n l raws a b None one h k = one_opened before n l raws a b (opened_by l) one h k
 one_placed before n l raws a b (Some fault_kind) one h k = h ∙ sym k
 
 one_short : (before : List NumberedLine) (n : ℕ) (raw : List ℕ) (raws : List (List ℕ)) (a b : Outcome)
-    → OneBehind raws → Short before n raw raws a → Short before n raw raws b → a ≡ b
+    → OneAfter raws → Short before n raw raws a → Short before n raw raws b → a ≡ b
 one_short before n raw raws a b one (inl h) (inl k) = one outside before (suc n) a b h.1 k.1
 one_short before n raw raws a b one (inl h) (inr (inl k)) = absurd (k.1 h.0)
 one_short before n raw raws a b one (inl h) (inr (inr k)) = absurd (skipped_spells_none raw k.0 h.0 k.1)
@@ -97,7 +97,7 @@ one_short before n raw raws a b one (inr (inr h)) (inr (inr k)) =
 
 one_blocked : (before : List NumberedLine) (n m : ℕ) (named : Named) (block raw : List ℕ) (raws : List (List ℕ))
     (a b : Outcome)
-    → OneBehind raws → Blocked before n m named block raw raws a → Blocked before n m named block raw raws b → a ≡ b
+    → OneAfter raws → Blocked before n m named block raw raws a → Blocked before n m named block raw raws b → a ≡ b
 one_blocked before n m named block raw raws a b one (inl h) (inl k) =
     one (inside m named (block ++ raw ++ 10 ∷ [])) before (suc n) a b h.1 k.1
 one_blocked before n m named block raw raws a b one (inl h) (inr k) = absurd (h.0 k.0)
@@ -108,7 +108,7 @@ one_blocked before n m named block raw raws a b one (inr h) (inr k) =
     (one_block block k.1 h.1 k.2 h.2) k.3)
 
 one_of_cases : (mode : Mode) (before : List NumberedLine) (n : ℕ) (raw : List ℕ) (raws : List (List ℕ)) (a b : Outcome)
-    → OneBehind raws → Cases mode before n (raw ∷ raws) a → Cases mode before n (raw ∷ raws) b → a ≡ b
+    → OneAfter raws → Cases mode before n (raw ∷ raws) a → Cases mode before n (raw ∷ raws) b → a ≡ b
 one_of_cases outside before n raw raws a b one (inl h) (inl k) = h.1 ∙ sym k.1
 one_of_cases outside before n raw raws a b one (inl h) (inr k) = absurd (omega (arith, h.0, k.0))
 one_of_cases outside before n raw raws a b one (inr h) (inl k) = absurd (omega (arith, h.0, k.0))
@@ -116,7 +116,7 @@ one_of_cases outside before n raw raws a b one (inr h) (inr k) = one_short befor
 one_of_cases (inside m named block) before n raw raws a b one h k =
     one_blocked before n m named block raw raws a b one h k
 
-one_by_lines : (raws : List (List ℕ)) → OneBehind raws
+one_by_lines : (raws : List (List ℕ)) → OneAfter raws
 one_by_lines [] outside before n a b h k = cases_of h ∙ sym (cases_of k)
 one_by_lines [] (inside m named block) before n a b h k = cases_of h ∙ sym (cases_of k)
 one_by_lines (raw ∷ raws) mode before n a b h k =

@@ -13,13 +13,13 @@ use Rattle.spec_plan_texts.specs.Reading.{Outcome, all_read, stopped, outside, C
 use Rattle.spec_plan_texts.specs.Text.{ReadsTo, SpellsPlan, FirstFault, no_utf8, no_header, in_line, in_names, SpellsCycle}
 use Rattle.spec_plan_texts.proofs.One.{comes_one}
 
-lines_behind : (head : List ℕ) (raws others : List (List ℕ)) → head ∷ raws ≡ head ∷ others → raws ≡ others
-lines_behind head raws others e = cc
+lines_after : (head : List ℕ) (raws others : List (List ℕ)) → head ∷ raws ≡ head ∷ others → raws ≡ others
+lines_after head raws others e = cc
 
 -- a text's lines come to one outcome
 pub one_reading : (bytes : List ℕ) (a b : Outcome) → ReadsTo bytes a → ReadsTo bytes b → a ≡ b
 one_reading bytes a b h k =
-    let same : k.1 ≡ h.1 = lines_behind (codes "glaze 1") k.1 h.1 (sym k.2 ∙ h.2) in
+    let same : k.1 ≡ h.1 = lines_after (codes "glaze 1") k.1 h.1 (sym k.2 ∙ h.2) in
     comes_one a b h.3 (subst (λ raws. Comes outside [] 2 raws b) same k.3)
 
 same_lines : (xs ys : List NumberedLine) → all_read xs ≡ all_read ys → xs ≡ ys

@@ -1,9 +1,9 @@
 -- How the lines of a plan's text are read, one after another, up to the first that can't be.
 use Rattle.std.specs.Prelude.{◌≡◌, ◌⊎◌, ◌<◌, ◌≤◌, ◌+◌, ℕ, suc, List, [], ◌∷◌, ◌++◌, map, length, codes, Option, Some, None}
-use Rattle.spec_value.specs.Tree.{Tree}
-use Rattle.spec_grammar.specs.Language.{Spell, Leaves}
+use Rattle.spec_plans.specs.Tree.{Tree}
+use Rattle.spec_syntax.specs.Language.{Spell, Leaves}
 use Rattle.spec_lines.specs.Line.{line_of_text}
-use Rattle.spec_csv.specs.Block.{BlockHas}
+use Rattle.spec_syntax.specs.Block.{BlockHas}
 use Rattle.gl_lines.specs.declared.named.Named.{Named}
 use Rattle.gl_lines.specs.declared.line.Line.{Line}
 use Rattle.gl_lines.specs.declared.line.Line.TheVariants.{Row, Csv}
@@ -55,14 +55,15 @@ opened_by other = None
 abbrev pub rows_of : ℕ → Named → List Tree → List NumberedLine
 rows_of number named rows = map (λ row. numbered number (Row named row)) rows
 
--- What the lines of a text come to, from a number on, behind the lines that were read: each line is judged before the next,
+-- What the lines of a text come to, from a number on, after the lines that were read: each line is judged before the next,
 -- and of what may be wrong with it the length comes first, then the form, then the place.
 pub data Comes : Mode → List NumberedLine → ℕ → List (List ℕ) → Outcome → Type 0 where
   at_end : {before : List NumberedLine} {n : ℕ} → Comes outside before n [] (all_read before)
   long : {before : List NumberedLine} {n : ℕ} {raw : List ℕ} {raws : List (List ℕ)}
       → most_bytes < length raw
       → Comes outside before n (raw ∷ raws) (fault n (most_bytes + 1) LongLine)
-  skipped : {before : List NumberedLine} {n : ℕ} {raw : List ℕ} {raws : List (List ℕ)} {out : Outcome}
+  skipped : {before : List NumberedLine} {n : ℕ} {raw : List ℕ} {raws : List (List ℕ)}
+      {out : Outcome}
       → length raw ≤ most_bytes
       → IsSkipped raw
       → Comes outside before (suc n) raws out
@@ -72,30 +73,35 @@ pub data Comes : Mode → List NumberedLine → ℕ → List (List ℕ) → Outc
       → ¬ IsSkipped raw
       → LeavesLines raw column
       → Comes outside before n (raw ∷ raws) (fault n column Form)
-  misplaced : {before : List NumberedLine} {n : ℕ} {raw : List ℕ} {raws : List (List ℕ)} (l : Line) {kind : PlanKind}
+  misplaced : {before : List NumberedLine} {n : ℕ} {raw : List ℕ} {raws : List (List ℕ)} (l : Line)
+      {kind : PlanKind}
       → length raw ≤ most_bytes
       → SpellsLine raw l
       → place_fault before l ≡ Some kind
       → Comes outside before n (raw ∷ raws) (fault n 1 kind)
-  plain : {before : List NumberedLine} {n : ℕ} {raw : List ℕ} {raws : List (List ℕ)} (l : Line) {out : Outcome}
+  plain : {before : List NumberedLine} {n : ℕ} {raw : List ℕ} {raws : List (List ℕ)} (l : Line)
+      {out : Outcome}
       → length raw ≤ most_bytes
       → SpellsLine raw l
       → place_fault before l ≡ None
       → opened_by l ≡ None
       → Comes outside (before ++ numbered n l ∷ []) (suc n) raws out
       → Comes outside before n (raw ∷ raws) out
-  opening : {before : List NumberedLine} {n : ℕ} {raw : List ℕ} {raws : List (List ℕ)} (l : Line) {named : Named} {out : Outcome}
+  opening : {before : List NumberedLine} {n : ℕ} {raw : List ℕ} {raws : List (List ℕ)} (l : Line)
+      {named : Named} {out : Outcome}
       → length raw ≤ most_bytes
       → SpellsLine raw l
       → place_fault before l ≡ None
       → opened_by l ≡ Some named
       → Comes (inside n named []) (before ++ numbered n l ∷ []) (suc n) raws out
       → Comes outside before n (raw ∷ raws) out
-  in_block : {before : List NumberedLine} {n m : ℕ} {named : Named} {block raw : List ℕ} {raws : List (List ℕ)} {out : Outcome}
+  in_block : {before : List NumberedLine} {n m : ℕ} {named : Named} {block raw : List ℕ}
+      {raws : List (List ℕ)} {out : Outcome}
       → ¬ (raw ≡ codes "end csv")
       → Comes (inside m named (block ++ raw ++ 10 ∷ [])) before (suc n) raws out
       → Comes (inside m named block) before n (raw ∷ raws) out
-  closing : {before : List NumberedLine} {n m : ℕ} {named : Named} {block : List ℕ} {rows : List Tree} {raws : List (List ℕ)} {out : Outcome}
+  closing : {before : List NumberedLine} {n m : ℕ} {named : Named} {block : List ℕ}
+      {rows : List Tree} {raws : List (List ℕ)} {out : Outcome}
       → BlockHas block rows
       → Comes outside (before ++ rows_of m named rows) (suc n) raws out
       → Comes (inside m named block) before n (codes "end csv" ∷ raws) out

@@ -2,7 +2,7 @@
 use Rattle.std.specs.Prelude.{◌≡◌, refl, codes}
 use Rattle.spec_plan_texts.specs.Text.{place_behind}
 
--- behind the first line and two bytes of the second
+-- after the first line and two bytes of the second
 second_line : place_behind (codes "glaze 1\nso") ≡ (2, 3)
 second_line = refl
 

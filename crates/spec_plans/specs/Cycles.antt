@@ -9,7 +9,8 @@ names_of names numbers = map (λ k. unwrap_or (slice_get names k) []) numbers
 
 -- these are the names of the first cycle
 abbrev pub NamesCycle : List (ℕ × ℕ) → List (List ℕ) → List (List ℕ) → Type 0
-NamesCycle edges all names = (cycle : List ℕ) × IsFirstCycle edges cycle × (names ≡ names_of all cycle)
+NamesCycle edges all names =
+    (cycle : List ℕ) × IsFirstCycle edges cycle × (names ≡ names_of all cycle)
 
 -- no list and no listener depends on itself through others
 pub record IsAcyclic (p : Plan) : Type 0 where
@@ -20,4 +21,5 @@ pub record IsAcyclic (p : Plan) : Type 0 where
 abbrev pub IsCycleOf : Plan → List (List ℕ) → Type 0
 IsCycleOf p names =
     NamesCycle (list_edges p) (map (λ d. d.name) p.lists) names
-    ⊎ (¬ HasCycle (list_edges p)) × NamesCycle (listener_edges p) (map (λ d. d.name) p.listeners) names
+    ⊎ (¬ HasCycle (list_edges p))
+    × NamesCycle (listener_edges p) (map (λ d. d.name) p.listeners) names

@@ -8,4 +8,11 @@ pub mod Plan
 pub mod Making
 pub mod Cycles
 pub mod Built
+pub mod PlanNames
+pub mod WellFormed
 pub mod Rows
+pub use Rattle.spec_value.specs.Tree
+pub use Rattle.spec_order.specs.Edges
+pub use Rattle.spec_order.specs.Cycle
+pub use Rattle.spec_order.specs.DependencyOrder
+pub use Rattle.spec_order.specs.Order

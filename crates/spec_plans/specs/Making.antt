@@ -26,7 +26,8 @@ is_number None k = false
 is_number (Some number) k = number == k
 
 abbrev pub row_for : List (List ℕ) → ℕ → Line → Option Tree
-row_for names source (Row list value) = if is_number (number_of names list.name) source then Some value else None
+row_for names source (Row list value) =
+    if is_number (number_of names list.name) source then Some value else None
 row_for names source other = None
 
 -- the opening elements of a source, in the order of their lines
@@ -44,33 +45,61 @@ part_of lists listeners rows (Source name) = declared name (kinds.Source (rows (
 part_of lists listeners rows (Row list value) = parts.Elsewhere
 part_of lists listeners rows (Csv list) = parts.Elsewhere
 part_of lists listeners rows EndCsv = parts.Elsewhere
-part_of lists listeners rows (Filter name input matcher) = declared name (kinds.Filter (number lists input) matcher)
-part_of lists listeners rows (Sorted name input order) = declared name (kinds.Sorted (number lists input) order)
-part_of lists listeners rows (Unique name input order) = declared name (kinds.Unique (number lists input) order)
-part_of lists listeners rows (Grouping name input order) = declared name (kinds.Grouping (number lists input) order)
-part_of lists listeners rows (Range name input bounds) = declared name (kinds.Range (number lists input) bounds)
-part_of lists listeners rows (Function name input func) = declared name (kinds.Function (number lists input) func)
-part_of lists listeners rows (Collection name input kids) = declared name (kinds.Collection (number lists input) kids)
-part_of lists listeners rows (Composite name members may) = declared name (kinds.Composite (numbers lists members) (numbers lists may))
-part_of lists listeners rows (Transaction name input) = declared name (kinds.Transaction (number lists input))
-part_of lists listeners rows (Freezable name input) = declared name (kinds.Freezable (number lists input))
+part_of lists listeners rows (Filter name input matcher) =
+    declared name (kinds.Filter (number lists input) matcher)
+part_of lists listeners rows (Sorted name input order) =
+    declared name (kinds.Sorted (number lists input) order)
+part_of lists listeners rows (Unique name input order) =
+    declared name (kinds.Unique (number lists input) order)
+part_of lists listeners rows (Grouping name input order) =
+    declared name (kinds.Grouping (number lists input) order)
+part_of lists listeners rows (Range name input bounds) =
+    declared name (kinds.Range (number lists input) bounds)
+part_of lists listeners rows (Function name input func) =
+    declared name (kinds.Function (number lists input) func)
+part_of lists listeners rows (Collection name input kids) =
+    declared name (kinds.Collection (number lists input) kids)
+part_of lists listeners rows (Composite name members may) =
+    declared name (kinds.Composite (numbers lists members) (numbers lists may))
+part_of lists listeners rows (Transaction name input) =
+    declared name (kinds.Transaction (number lists input))
+part_of lists listeners rows (Freezable name input) =
+    declared name (kinds.Freezable (number lists input))
 part_of lists listeners rows (Proxy name input) = declared name (kinds.Proxy (number lists input))
 part_of lists listeners rows (Listen name list after echo) =
-    parts.Listener (record { name = name.name; list = number lists list; after = numbers listeners after; echo = echo })
+    parts.Listener
+    (record {
+      name = name.name;
+      list = number lists list;
+      after =
+          numbers listeners after;
+      echo = echo;
+    })
 part_of lists listeners rows Writer = parts.Writer
 part_of lists listeners rows Section = parts.Section
-part_of lists listeners rows (Add list value) = parts.Command (commands.Add (number lists list) value)
-part_of lists listeners rows (AddAll list values) = parts.Command (commands.AddAll (number lists list) values)
-part_of lists listeners rows (Insert list index value) = parts.Command (commands.Insert (number lists list) index value)
-part_of lists listeners rows (Set list index value) = parts.Command (commands.Set (number lists list) index value)
-part_of lists listeners rows (Remove list index) = parts.Command (commands.Remove (number lists list) index)
+part_of lists listeners rows (Add list value) =
+    parts.Command (commands.Add (number lists list) value)
+part_of lists listeners rows (AddAll list values) =
+    parts.Command (commands.AddAll (number lists list) values)
+part_of lists listeners rows (Insert list index value) =
+    parts.Command (commands.Insert (number lists list) index value)
+part_of lists listeners rows (Set list index value) =
+    parts.Command (commands.Set (number lists list) index value)
+part_of lists listeners rows (Remove list index) =
+    parts.Command (commands.Remove (number lists list) index)
 part_of lists listeners rows (Clear list) = parts.Command (commands.Clear (number lists list))
-part_of lists listeners rows (Match list matcher) = parts.Command (commands.Match (number lists list) matcher)
-part_of lists listeners rows (Order list order) = parts.Command (commands.Order (number lists list) order)
-part_of lists listeners rows (Bounds list bounds) = parts.Command (commands.Bounds (number lists list) bounds)
-part_of lists listeners rows (Apply list func) = parts.Command (commands.Apply (number lists list) func)
-part_of lists listeners rows (Attach list member) = parts.Command (commands.Attach (number lists list) (number lists member))
-part_of lists listeners rows (Detach list index) = parts.Command (commands.Detach (number lists list) index)
+part_of lists listeners rows (Match list matcher) =
+    parts.Command (commands.Match (number lists list) matcher)
+part_of lists listeners rows (Order list order) =
+    parts.Command (commands.Order (number lists list) order)
+part_of lists listeners rows (Bounds list bounds) =
+    parts.Command (commands.Bounds (number lists list) bounds)
+part_of lists listeners rows (Apply list func) =
+    parts.Command (commands.Apply (number lists list) func)
+part_of lists listeners rows (Attach list member) =
+    parts.Command (commands.Attach (number lists list) (number lists member))
+part_of lists listeners rows (Detach list index) =
+    parts.Command (commands.Detach (number lists list) index)
 part_of lists listeners rows (Begin list) = parts.Command (commands.Begin (number lists list))
 part_of lists listeners rows (Commit list) = parts.Command (commands.Commit (number lists list))
 part_of lists listeners rows (Rollback list) = parts.Command (commands.Rollback (number lists list))
@@ -79,7 +108,10 @@ part_of lists listeners rows (Thaw list) = parts.Command (commands.Thaw (number 
 part_of lists listeners rows (Show list) = parts.Command (commands.Show (number lists list))
 
 abbrev pub parts_of : List NumberedLine → List Part
-parts_of lines = map (λ l. part_of (list_names lines) (listener_names lines) (rows_for (list_names lines) lines) l.what) lines
+parts_of lines =
+    map (λ l.
+    part_of (list_names lines) (listener_names lines) (rows_for (list_names lines) lines) l.what)
+    lines
 
 -- the list with a changed last item; the empty list has none to change
 abbrev pub with_last : {X : Type 0} → (X → X) → List X → List X
@@ -94,8 +126,10 @@ with_part p (parts.Limit limit) = record p { limit = limit }
 with_part p (parts.List d) = record p { lists = p.lists ++ d ∷ [] }
 with_part p (parts.Listener d) = record p { listeners = p.listeners ++ d ∷ [] }
 with_part p parts.Writer = record p { writers = p.writers ++ [] ∷ [] }
-with_part p parts.Section = record p { writers = with_last (λ sections. sections ++ [] ∷ []) p.writers }
-with_part p (parts.Command c) = record p { writers = with_last (with_last (λ commands. commands ++ c ∷ [])) p.writers }
+with_part p parts.Section =
+    record p { writers = with_last (λ sections. sections ++ [] ∷ []) p.writers }
+with_part p (parts.Command c) =
+    record p { writers = with_last (with_last (λ commands. commands ++ c ∷ [])) p.writers }
 with_part p parts.Elsewhere = p
 
 -- the plan of no lines; a list may have this many elements where no line says otherwise

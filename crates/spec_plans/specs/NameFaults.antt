@@ -43,7 +43,8 @@ meets (Some need) class = class_number need == class_number class
 
 -- a declared name: an earlier line of the name space declares it too
 abbrev pub taken_fault : List (List ℕ) → Named → Option NameFault
-taken_fault earlier named = if is_some (number_of earlier named.name) then wrong named Taken else None
+taken_fault earlier named =
+    if is_some (number_of earlier named.name) then wrong named Taken else None
 
 -- a used name, by the class of its list where there is one: no line declares it, or the list is of another class
 abbrev pub use_fault_of : Option ListClass → Named → Option ListClass → Option NameFault
@@ -55,7 +56,8 @@ use_fault lines need named = use_fault_of need named (class_of lines named.name)
 
 -- a listener's name in `after`: no line declares it
 abbrev pub after_fault : List NumberedLine → Named → Option NameFault
-after_fault lines named = if is_some (number_of (listener_names lines) named.name) then None else wrong named Unknown
+after_fault lines named =
+    if is_some (number_of (listener_names lines) named.name) then None else wrong named Unknown
 
 -- a transaction's input is a source; other lists may be over any
 abbrev pub input_need : ListClass → Option ListClass
@@ -68,11 +70,13 @@ is_undone other = false
 
 -- the inputs of the transactions
 abbrev pub undone_inputs : List Head → List (List ℕ)
-undone_inputs hs = flat_map (λ h. if is_undone h.class then map (λ input. input.name) h.inputs else []) hs
+undone_inputs hs =
+    flat_map (λ h. if is_undone h.class then map (λ input. input.name) h.inputs else []) hs
 
 -- a transaction's input: an earlier transaction has it
 abbrev pub second_fault : List Head → Named → Option NameFault
-second_fault earlier named = if is_some (number_of (undone_inputs earlier) named.name) then wrong named Second else None
+second_fault earlier named =
+    if is_some (number_of (undone_inputs earlier) named.name) then wrong named Second else None
 
 -- whether a list of this class may not depend on a proxy
 abbrev pub shuns_proxies : ListClass → Bool
@@ -83,7 +87,8 @@ shuns_proxies other = false
 -- a composite or a collection, by its number, that depends on a proxy
 abbrev pub proxy_fault : List NumberedLine → ℕ → ListClass → Option NameFault
 proxy_fault lines number class =
-    if shuns_proxies class && is_over_proxy lines number then Some (record { column = 1; kind = OverProxy }) else None
+    if shuns_proxies class
+    && is_over_proxy lines number then Some (record { column = 1; kind = OverProxy }) else None
 
 -- a line that declares a list
 abbrev pub list_fault : List NumberedLine → List NumberedLine → Head → Option NameFault
@@ -91,7 +96,8 @@ list_fault lines before h =
     option_or (taken_fault (list_names before) h.name)
     (option_or (first_fault (use_fault lines (input_need h.class)) h.inputs)
     (option_or (first_fault (use_fault lines None) h.may)
-    (option_or (if is_undone h.class then first_fault (second_fault (heads before)) h.inputs else None)
+    (option_or
+    (if is_undone h.class then first_fault (second_fault (heads before)) h.inputs else None)
     (proxy_fault lines (length (heads before)) h.class))))
 
 -- a line that declares a listener
@@ -105,18 +111,21 @@ listener_fault lines before r =
 abbrev pub member_fault : List NumberedLine → Named → Named → Option NameFault
 member_fault lines composite member =
     if depends_on lines
-    (unwrap_or (number_of (list_names lines) composite.name) 0) (unwrap_or (number_of (list_names lines) member.name) 0)
+    (unwrap_or (number_of (list_names lines) composite.name) 0)
+    (unwrap_or (number_of (list_names lines) member.name) 0)
     then None else wrong member Member
 
 abbrev pub attach_fault : List NumberedLine → Named → Named → Option NameFault
-attach_fault lines composite member = option_or (use_fault lines None member) (member_fault lines composite member)
+attach_fault lines composite member =
+    option_or (use_fault lines None member) (member_fault lines composite member)
 
 -- a command, by its list with the class that is needed, and by what it attaches
 abbrev pub command_fault : List NumberedLine → Line → Named × Option ListClass → Option NameFault
 command_fault lines line about =
-    option_or (use_fault lines about.1 about.0) (option_and_then (attach_fault lines about.0) (attached_by line))
+    option_or (use_fault lines about.1 about.0)
+    (option_and_then (attach_fault lines about.0) (attached_by line))
 
--- what is wrong with the names of a line behind the others, if anything is
+-- what is wrong with the names of a line after the others, if anything is
 abbrev pub name_fault : List NumberedLine → List NumberedLine → Line → Option NameFault
 name_fault lines before line =
     option_or (option_and_then (list_fault lines before) (head_of line))
@@ -126,7 +135,8 @@ name_fault lines before line =
 
 abbrev pub naming : List NumberedLine → List NumberedLine → NumberedLine → Option FaultAt
 naming lines before l =
-    option_map (λ f. record { line = l.line; column = f.column; kind = f.kind }) (name_fault lines before l.what)
+    option_map (λ f. record { line = l.line; column = f.column; kind = f.kind })
+    (name_fault lines before l.what)
 
 -- the first fault of names
 abbrev pub first_misnamed : List NumberedLine → Option FaultAt
@@ -135,4 +145,6 @@ first_misnamed lines = first_said (naming lines) lines
 -- the first fault of the lines: lines that are out of place or too many come first, then names
 abbrev pub first_fault_at : List NumberedLine → Option FaultAt
 first_fault_at lines =
-    option_or (option_map (λ m. record { line = m.line; column = 1; kind = m.kind }) (first_misplaced lines)) (first_misnamed lines)
+    option_or
+    (option_map (λ m. record { line = m.line; column = 1; kind = m.kind })
+    (first_misplaced lines)) (first_misnamed lines)

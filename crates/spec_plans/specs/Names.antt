@@ -28,7 +28,9 @@ number_of names name = position (λ other. bytes_eq other name) names
 
 -- the class of the list of a name, where there is one
 abbrev pub class_of : List NumberedLine → List ℕ → Option ListClass
-class_of lines name = option_map (λ h. h.class) (option_and_then (slice_get (heads lines)) (number_of (list_names lines) name))
+class_of lines name =
+    option_map (λ h. h.class)
+    (option_and_then (slice_get (heads lines)) (number_of (list_names lines) name))
 
 -- the numbers of the names that stand for something
 abbrev pub numbers_in : List (List ℕ) → List Named → List ℕ
@@ -58,7 +60,8 @@ is_proxy hs number = unwrap_or (option_map (λ h. is_pumped h.class) (slice_get 
 -- whether at most so many steps along dependencies lead from a list to a proxy
 abbrev pub leads_to_proxy : List NumberedLine → ℕ → ℕ → Bool
 leads_to_proxy lines zero a = is_proxy (heads lines) a
-leads_to_proxy lines (suc steps) a = is_proxy (heads lines) a || list_any (leads_to_proxy lines steps) (needed lines a)
+leads_to_proxy lines (suc steps) a =
+    is_proxy (heads lines) a || list_any (leads_to_proxy lines steps) (needed lines a)
 
 -- whether a list depends on a proxy, or is one: no way along dependencies needs more steps than there are lists
 abbrev pub is_over_proxy : List NumberedLine → ℕ → Bool

@@ -17,17 +17,17 @@ some_line p lines = list_any (λ l. p l.what) lines
 abbrev pub count_lines : (Line → Bool) → List NumberedLine → ℕ
 count_lines p lines = count_by (λ l. p l.what) lines
 
--- whether a section is open behind a line: `section` opens one, and `writer` closes it
-abbrev pub is_open_behind : Bool → Line → Bool
-is_open_behind was Section = true
-is_open_behind was Writer = false
-is_open_behind was other = was
+-- whether a section is open after a line: `section` opens one, and `writer` closes it
+abbrev pub is_open_after : Bool → Line → Bool
+is_open_after was Section = true
+is_open_after was Writer = false
+is_open_after was other = was
 
 -- whether the last writer of the lines has a section
 abbrev pub has_section : List NumberedLine → Bool
-has_section lines = fold (λ was l. is_open_behind was l.what) false lines
+has_section lines = fold (λ was l. is_open_after was l.what) false lines
 
--- These may not stand behind the lines: a declaration after the first `writer`; a second `limit`; a `section` before a
+-- These may not stand after the lines: a declaration after the first `writer`; a second `limit`; a `section` before a
 -- `writer`; a command before its writer's first `section`; and `end csv` anywhere.
 abbrev pub is_out_of_place : List NumberedLine → Line → Bool
 is_out_of_place before line =
@@ -44,12 +44,15 @@ is_too_many before line =
     || (is_listener line && count_lines is_listener before == 256)
     || (is_writer line && count_lines is_writer before == 64)
 
--- what is wrong with the place of a line behind the others, if anything is
+-- what is wrong with the place of a line after the others, if anything is
 abbrev pub place_fault : List NumberedLine → Line → Option PlanKind
-place_fault before line = if is_out_of_place before line then Some Place else if is_too_many before line then Some Many else None
+place_fault before line =
+    if is_out_of_place before line then Some Place else if is_too_many before line then Some Many
+    else None
 
 abbrev pub misplacing : List NumberedLine → NumberedLine → Option Misplaced
-misplacing before l = option_map (λ kind. record { line = l.line; kind = kind }) (place_fault before l.what)
+misplacing before l =
+    option_map (λ kind. record { line = l.line; kind = kind }) (place_fault before l.what)
 
 -- the first line that may not stand where it stands or is one too many
 abbrev pub first_misplaced : List NumberedLine → Option Misplaced

@@ -74,7 +74,8 @@ proxies_of p = proxies_from 0 p.lists
 -- the dependencies of items by number, from what each depends on, where the first has this number
 abbrev pub edges_from : ℕ → List (List ℕ) → List (ℕ × ℕ)
 edges_from number [] = []
-edges_from number (needed ∷ others) = map (λ b. (number, b)) needed ++ edges_from (suc number) others
+edges_from number (needed ∷ others) =
+    map (λ b. (number, b)) needed ++ edges_from (suc number) others
 
 abbrev pub list_edges : Plan → List (ℕ × ℕ)
 list_edges p = edges_from 0 (map (λ d. inputs_of d.kind) p.lists)

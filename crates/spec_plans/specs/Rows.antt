@@ -24,7 +24,9 @@ fault line column kind = Some (record { line = line; column = column; kind = kin
 
 -- source s; row s 7; writer; section; add s 5
 abbrev pub small : List NumberedLine
-small = numbered 2 (Source (at 8 (codes "s")) ∷ Row (at 5 (codes "s")) (num (pos 7)) ∷ Writer ∷ Section ∷ Add (at 5 (codes "s")) (num (pos 5)) ∷ [])
+small = numbered 2
+    (Source (at 8 (codes "s")) ∷ Row (at 5 (codes "s")) (num (pos 7)) ∷ Writer ∷ Section
+    ∷ Add (at 5 (codes "s")) (num (pos 5)) ∷ [])
 
 small_is_right : first_fault_at small ≡ None
 small_is_right = refl
@@ -38,37 +40,52 @@ small_makes : plan_of small ≡ record {
 small_makes = refl
 
 -- source s; source s
-taken : first_fault_at (numbered 2 (Source (at 8 (codes "s")) ∷ Source (at 8 (codes "s")) ∷ [])) ≡ fault 3 8 Taken
+taken : first_fault_at (numbered 2 (Source (at 8 (codes "s")) ∷ Source (at 8 (codes "s")) ∷ []))
+    ≡ fault 3 8 Taken
 taken = refl
 
 -- proxy p x
-unknown : first_fault_at (numbered 2 (Proxy (at 7 (codes "p")) (at 9 (codes "x")) ∷ [])) ≡ fault 2 9 Unknown
+unknown : first_fault_at (numbered 2 (Proxy (at 7 (codes "p")) (at 9 (codes "x")) ∷ []))
+    ≡ fault 2 9 Unknown
 unknown = refl
 
 -- source s; proxy s x: the name that stands first is judged first
-left_to_right : first_fault_at (numbered 2 (Source (at 8 (codes "s")) ∷ Proxy (at 7 (codes "s")) (at 9 (codes "x")) ∷ [])) ≡ fault 3 7 Taken
+left_to_right : first_fault_at
+    (numbered 2 (Source (at 8 (codes "s")) ∷ Proxy (at 7 (codes "s")) (at 9 (codes "x")) ∷ []))
+    ≡ fault 3 7 Taken
 left_to_right = refl
 
 -- source s; proxy p s; writer; section; add p 5
-kind_needed : first_fault_at (numbered 2 (Source (at 8 (codes "s")) ∷ Proxy (at 7 (codes "p")) (at 9 (codes "s")) ∷ Writer ∷ Section ∷ Add (at 5 (codes "p")) (num (pos 5)) ∷ []))
+kind_needed : first_fault_at
+    (numbered 2
+    (Source (at 8 (codes "s")) ∷ Proxy (at 7 (codes "p")) (at 9 (codes "s")) ∷ Writer ∷ Section
+    ∷ Add (at 5 (codes "p")) (num (pos 5)) ∷ []))
     ≡ fault 6 5 Kind
 kind_needed = refl
 
 -- source s; transaction t s; transaction u s
-second : first_fault_at (numbered 2 (Source (at 8 (codes "s")) ∷ Transaction (at 13 (codes "t")) (at 15 (codes "s")) ∷ Transaction (at 13 (codes "u")) (at 15 (codes "s")) ∷ []))
+second : first_fault_at
+    (numbered 2
+    (Source (at 8 (codes "s")) ∷ Transaction (at 13 (codes "t")) (at 15 (codes "s"))
+    ∷ Transaction (at 13 (codes "u")) (at 15 (codes "s")) ∷ []))
     ≡ fault 4 15 Second
 second = refl
 
 -- source s; source r; composite c s may t; source t; writer; section; attach c t; attach c r
 attaching : first_fault_at (numbered 2 (Source (at 8 (codes "s")) ∷ Source (at 8 (codes "r"))
-    ∷ Composite (at 11 (codes "c")) (at 13 (codes "s") ∷ []) (at 19 (codes "t") ∷ []) ∷ Source (at 8 (codes "t"))
-    ∷ Writer ∷ Section ∷ Attach (at 8 (codes "c")) (at 10 (codes "t")) ∷ Attach (at 8 (codes "c")) (at 10 (codes "r")) ∷ []))
+    ∷ Composite (at 11 (codes "c")) (at 13 (codes "s") ∷ []) (at 19 (codes "t") ∷ [])
+    ∷ Source (at 8 (codes "t"))
+    ∷ Writer ∷ Section ∷ Attach (at 8 (codes "c")) (at 10 (codes "t"))
+    ∷ Attach (at 8 (codes "c")) (at 10 (codes "r")) ∷ []))
     ≡ fault 9 10 Member
 attaching = refl
 
 -- source s; composite c q; proxy q p; proxy p s: names may be used before their line
-over_proxy : first_fault_at (numbered 2 (Source (at 8 (codes "s")) ∷ Composite (at 11 (codes "c")) (at 13 (codes "q") ∷ []) []
-    ∷ Proxy (at 7 (codes "q")) (at 9 (codes "p")) ∷ Proxy (at 7 (codes "p")) (at 9 (codes "s")) ∷ []))
+over_proxy : first_fault_at
+    (numbered 2
+    (Source (at 8 (codes "s")) ∷ Composite (at 11 (codes "c")) (at 13 (codes "q") ∷ []) []
+    ∷ Proxy (at 7 (codes "q")) (at 9 (codes "p")) ∷ Proxy (at 7 (codes "p")) (at 9 (codes "s"))
+    ∷ []))
     ≡ fault 3 1 OverProxy
 over_proxy = refl
 
@@ -81,7 +98,9 @@ limited_twice : first_fault_at (numbered 2 (Limit 3 ∷ Limit 3 ∷ [])) ≡ fau
 limited_twice = refl
 
 -- writer; section; writer; add s 5: each writer has sections of its own, and places come before names
-no_section : first_fault_at (numbered 2 (Writer ∷ Section ∷ Writer ∷ Add (at 5 (codes "s")) (num (pos 5)) ∷ [])) ≡ fault 5 1 Place
+no_section : first_fault_at
+    (numbered 2 (Writer ∷ Section ∷ Writer ∷ Add (at 5 (codes "s")) (num (pos 5)) ∷ []))
+    ≡ fault 5 1 Place
 no_section = refl
 
 no_block : first_fault_at (numbered 2 (EndCsv ∷ [])) ≡ fault 2 1 Place

@@ -3,14 +3,14 @@ use Rattle.std.proofs.Common.{◌≡◌, ◌∙◌, ◌⊎◌, ℕ, ◌≤◌, B
 use Rattle.std.specs.Prelude.{decimal}
 use Rattle.std.specs.List.{AllByRecursion}
 use Rattle.std.proofs.lemmas.Bool.Decides.{nat_tests}
-use Rattle.spec_grammar.specs.Grammar.{Grammar, word, mapped, either, after, many, listed, words}
-use Rattle.spec_grammar.specs.Reader.{Reader, Verdict, read, fault, whole, first_is, read_word, made_of, seq, behind, all_of, or_else, table}
-use Rattle.spec_grammar.proofs.Reading.{Tails, no_more, Reads, Has, HasTail}
-use Rattle.spec_grammar.proofs.Sequences.{made_of_reads, word_reads}
-use Rattle.spec_grammar.proofs.Choices.{or_else_reads}
-use Rattle.spec_grammar.proofs.Repetitions.{Begun, Unbegun, starts_begun, none_begun}
-use Rattle.spec_grammar.proofs.Tables.{table_reads}
-use Rattle.spec_grammar.proofs.Wholes.{IsVerdict, verdict_of}
+use Rattle.spec_syntax.specs.Grammar.{Grammar, word, mapped, either, after, many, listed, words}
+use Rattle.spec_syntax.specs.Reader.{Reader, Verdict, read, fault, whole, first_is, read_word, made_of, seq, after_word, all_of, or_else, table}
+use Rattle.spec_syntax.proofs.ReadSteps.{Tails, no_more, Reads, Has, HasTail}
+use Rattle.spec_syntax.proofs.Sequences.{made_of_reads, word_reads}
+use Rattle.spec_syntax.proofs.Choices.{or_else_reads}
+use Rattle.spec_syntax.proofs.Repetitions.{Begun, Unbegun, starts_begun, none_begun}
+use Rattle.spec_syntax.proofs.Tables.{table_reads}
+use Rattle.spec_syntax.proofs.Wholes.{IsVerdict, verdict_of}
 use Rattle.spec_syntax.specs.Number.{is_digit}
 use Rattle.spec_syntax.specs.Bounds.{short_number}
 use Rattle.spec_syntax.specs.ValueReader.{is}
@@ -20,7 +20,7 @@ use Rattle.spec_syntax.proofs.Lists.{ReadsAhead, listed_reads}
 use Rattle.spec_syntax.proofs.Numbers.{has_natural, natural_reads}
 use Rattle.spec_syntax.proofs.Spelled.{natural_decimal}
 use Rattle.spec_syntax.proofs.Spellings.{natural_is, natural_most}
-use Rattle.spec_lines.proofs.Composites.{ends, none_behind}
+use Rattle.spec_lines.proofs.Composites.{ends, nothing_follows}
 use Rattle.gl_outside.specs.declared.gate.Actor.{Actor}
 use Rattle.gl_outside.specs.declared.gate.Actor.TheVariants.{Writer, Proxy}
 use Rattle.spec_reports.specs.Order.{spelled_actor, spelled_rest, spelled_order, IsActor}
@@ -55,7 +55,7 @@ abbrev read_dash : Reader (List Actor)
 read_dash = made_of (λ _. []) (read_word (codes "-"))
 
 abbrev read_actors : Reader (List Actor)
-read_actors = made_of (λ b. b.0 ∷ b.1) (seq read_actor (all_of (is 44) (behind (codes ",") read_actor)))
+read_actors = made_of (λ b. b.0 ∷ b.1) (seq read_actor (all_of (is 44) (after_word (codes ",") read_actor)))
 
 abbrev read_order : Reader (List Actor)
 read_order = or_else (is 45) read_dash read_actors
@@ -79,13 +79,13 @@ has_actor =
 
 actors_reads : (n : ℕ) → Reads n actors no_more read_actors
 actors_reads n =
-    listed_reads n is_digit actor read_actor no_more refl has_actor none_behind (ends (is 44)) (ends is_digit)
+    listed_reads n is_digit actor read_actor no_more refl has_actor nothing_follows (ends (is 44)) (ends is_digit)
     (actor_reads n)
 
 dash_reads : (n : ℕ) → Reads n dash no_more read_dash
 dash_reads n =
     made_of_reads n (λ _. []) (word (codes "-")) no_more (read_word (codes "-"))
-    (word_reads n (codes "-") no_more none_behind)
+    (word_reads n (codes "-") no_more nothing_follows)
 
 begun_dash : Begun (is 45) dash
 begun_dash a t s = subst (λ bs. first_is (is 45) bs ≡ true) (sym s.1) refl
@@ -137,9 +137,9 @@ rest_is [] v s = (s, tt)
 rest_is (a ∷ entries) v s =
     let one = actor_is s.2.0.1 s.2.1.1 s.2.1.3 in
     let others = rest_is entries s.1 s.3 in
-    let behind_comma : s.0 ≡ 44 ∷ spelled_actor s.2.0.1 =
+    let after_comma : s.0 ≡ 44 ∷ spelled_actor s.2.0.1 =
     s.2.1.4 ∙ ap (λ x. x ++ s.2.1.1) s.2.1.2 ∙ ap (λ x. 44 ∷ x) one.0 in
-    let first : s.0 ≡ 44 ∷ spelled_actor a = behind_comma ∙ ap (λ x. 44 ∷ spelled_actor x) (sym s.2.2) in
+    let first : s.0 ≡ 44 ∷ spelled_actor a = after_comma ∙ ap (λ x. 44 ∷ spelled_actor x) (sym s.2.2) in
     let whole_is = s.4 ∙ ap (λ x. x ++ s.1) first ∙ ap (λ x. (44 ∷ spelled_actor a) ++ x) others.0 in
     (whole_is, (subst IsActor (sym s.2.2) one.1, others.1))
 

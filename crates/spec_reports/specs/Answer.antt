@@ -8,7 +8,7 @@ use Rattle.gl_lines.specs.declared.reply.Reply.TheVariants as reply
 use Rattle.spec_plans.specs.Plan.{Plan}
 use Rattle.spec_plans.specs.declared.fault.FaultAt.{FaultAt}
 use Rattle.spec_plan_texts.specs.Text.{SpellsPlan, FirstFault, SpellsCycle}
-use Rattle.spec_canonical.specs.Canonical.{spelled_plan}
+use Rattle.spec_plan_texts.specs.Canonical.{spelled_plan}
 use Rattle.spec_states.specs.Opening.{opening}
 use Rattle.spec_states.specs.Step.{too_long as first_too_long}
 use Rattle.spec_plans.specs.Built.{is_built}
@@ -47,7 +47,8 @@ opened p order other = taken p order (first_bad_place p order)
 
 -- what the replay of a plan in an order comes to
 abbrev pub replayed : Plan → List Actor → Outcome
-replayed p order = if is_built p then opened p order (first_too_long p.limit (opening p)) else unbuilt
+replayed p order =
+    if is_built p then opened p order (first_too_long p.limit (opening p)) else unbuilt
 
 -- what a request for a plan comes to; the actors of a run take the lock in the order taken
 abbrev pub answer_of : Request → List Actor → Plan → Outcome
@@ -65,15 +66,20 @@ Reads (big n) = ⊥
 
 -- What a call comes to, where the actors of a run take the lock in this order. Of the cases, which are in the order of refusals,
 -- exactly one fits.
-pub data ComesTo (words : List (List ℕ)) (bytes : List ℕ) (taken : List Actor) : Outcome → Type 0 where
+pub data ComesTo (words : List (List ℕ)) (bytes : List ℕ) (taken : List Actor) : Outcome
+    → Type 0 where
   no_form : HaveNoForm words → ComesTo words bytes taken usage
   a_size : (n : ℕ) → Asks words (big n) → ComesTo words bytes taken (reported (big_summary n))
-  large : (r : Request) → Asks words r → Reads r → most_bytes < length bytes → ComesTo words bytes taken too_large
-  a_fault : (r : Request) (f : FaultAt) → Asks words r → Reads r → length bytes ≤ most_bytes → FirstFault bytes f
+  large : (r : Request) → Asks words r → Reads r → most_bytes < length bytes
+      → ComesTo words bytes taken too_large
+  a_fault : (r : Request) (f : FaultAt) → Asks words r → Reads r → length bytes ≤ most_bytes
+      → FirstFault bytes f
       → ComesTo words bytes taken (faulty f)
-  a_cycle : (r : Request) (names : List (List ℕ)) → Asks words r → Reads r → length bytes ≤ most_bytes → SpellsCycle bytes names
+  a_cycle : (r : Request) (names : List (List ℕ)) → Asks words r → Reads r
+      → length bytes ≤ most_bytes → SpellsCycle bytes names
       → ComesTo words bytes taken (circular names)
-  a_plan : {o : Outcome} (r : Request) (p : Plan) → Asks words r → Reads r → length bytes ≤ most_bytes → SpellsPlan bytes p
+  a_plan : {o : Outcome} (r : Request) (p : Plan) → Asks words r → Reads r
+      → length bytes ≤ most_bytes → SpellsPlan bytes p
       → o ≡ answer_of r taken p → ComesTo words bytes taken o
 
 abbrev pub reason_text : Reason → List ℕ
@@ -106,10 +112,14 @@ spaced (name ∷ names) = codes " " ++ name ++ spaced names
 abbrev pub text_of_outcome : Outcome → List ℕ
 text_of_outcome usage = codes "usage: glazed check | replay ORDER | run | big N\n"
 text_of_outcome too_large = codes "input: more than 67108864 bytes\n"
-text_of_outcome (faulty f) = codes "plan: line " ++ decimal f.line ++ codes " column " ++ decimal f.column ++ codes ": " ++ kind_text f.kind ++ line_feed
+text_of_outcome (faulty f) =
+    codes "plan: line " ++ decimal f.line ++ codes " column " ++ decimal f.column ++ codes ": "
+    ++ kind_text f.kind ++ line_feed
 text_of_outcome (circular names) = codes "plan: cycle" ++ spaced names ++ line_feed
 text_of_outcome (written text) = text
 text_of_outcome unbuilt = codes "plan: unbuilt\n"
-text_of_outcome (too_long name len) = codes "too-long " ++ name ++ codes " " ++ decimal len ++ line_feed
-text_of_outcome (misfit bad) = codes "order: place " ++ decimal bad.place ++ codes ": " ++ reason_text bad.reason ++ line_feed
+text_of_outcome (too_long name len) =
+    codes "too-long " ++ name ++ codes " " ++ decimal len ++ line_feed
+text_of_outcome (misfit bad) =
+    codes "order: place " ++ decimal bad.place ++ codes ": " ++ reason_text bad.reason ++ line_feed
 text_of_outcome (reported text) = text

@@ -2,11 +2,11 @@
 -- a writer with a section for each of its elements.
 use Rattle.std.specs.Prelude.{ℕ, ◌*◌, ◌%◌, pos, List, [], ◌∷◌, map, replicate, codes, false}
 use Rattle.std.specs.List.{range_with_len}
-use Rattle.spec_value.specs.Tree.{Tree, num, items_of}
-use Rattle.spec_lang.specs.Matcher.{is}
-use Rattle.spec_lang.specs.Func.{count}
-use Rattle.spec_lang.specs.declared.Test.TheVariants.{Ge}
-use Rattle.spec_lang.specs.Sorting.{Key}
+use Rattle.spec_plans.specs.Tree.{Tree, num, items_of}
+use Rattle.spec_syntax.specs.LangMatcher.{is}
+use Rattle.spec_syntax.specs.LangFunc.{count}
+use Rattle.spec_syntax.specs.Test.TheVariants.{Ge}
+use Rattle.spec_syntax.specs.Sorting.{Key}
 use Rattle.gl_outside.specs.declared.gate.Actor.{Actor}
 use Rattle.gl_outside.specs.declared.gate.Actor.TheVariants.{Writer}
 use Rattle.gl_lines.specs.declared.plan.Command.{Command}
@@ -29,7 +29,8 @@ upwards index = record { path = index ∷ []; down = false }
 -- the commands of the j-th section: the element of one place is set, one is added at the end, and one is removed
 abbrev pub big_section : ℕ → ℕ → List Command
 big_section n j =
-    Set 0 ((13 * j) % n) (element ((41 * j) % 101) (j % 7)) ∷ Add 0 (element ((53 * j) % 101) (j % 7)) ∷ Remove 0 ((29 * j) % n) ∷ []
+    Set 0 ((13 * j) % n) (element ((41 * j) % 101) (j % 7))
+    ∷ Add 0 (element ((53 * j) % 101) (j % 7)) ∷ Remove 0 ((29 * j) % n) ∷ []
 
 abbrev pub declared : List ℕ → ListKind → ListDecl
 declared name kind = record { name = name; kind = kind }
@@ -41,7 +42,8 @@ abbrev pub big_plan : ℕ → Plan
 big_plan n = record {
   limit = 16777216;
   lists =
-      declared (codes "s") (kinds.Source (map (λ k. element ((37 * k) % 101) (k % 7)) (range_with_len 0 n)))
+      declared (codes "s")
+      (kinds.Source (map (λ k. element ((37 * k) % 101) (k % 7)) (range_with_len 0 n)))
       ∷ declared (codes "f") (kinds.Filter 0 (is (0 ∷ []) Ge (num (pos 50))))
       ∷ declared (codes "o") (kinds.Sorted 1 (upwards 0 ∷ upwards 1 ∷ []))
       ∷ declared (codes "u") (kinds.Unique 0 (upwards 0 ∷ []))

@@ -8,7 +8,7 @@ abbrev pub spelled_actor : Actor → List ℕ
 spelled_actor (Writer w) = codes "w" ++ decimal w
 spelled_actor (Proxy p) = codes "p" ++ decimal p
 
--- the actors behind the first one, a comma before each
+-- the actors after the first one, a comma before each
 abbrev pub spelled_rest : List Actor → List ℕ
 spelled_rest [] = []
 spelled_rest (a ∷ order) = 44 ∷ spelled_actor a ++ spelled_rest order

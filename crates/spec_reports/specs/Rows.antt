@@ -1,8 +1,8 @@
 -- Worked rows of the definitions, each by computing.
 use Rattle.std.specs.Prelude.{◌≡◌, pos, [], ◌∷◌, refl, codes}
 use Rattle.std.specs.Fmt.{digits}
-use Rattle.spec_value.specs.Tree.{num}
-use Rattle.spec_lists.specs.Changes.{delete, insertion}
+use Rattle.spec_plans.specs.Tree.{num}
+use Rattle.spec_states.specs.Changes.{delete, insertion}
 use Rattle.gl_outside.specs.declared.gate.Actor.TheVariants.{Writer, Proxy}
 use Rattle.gl_lines.specs.declared.plan.Command.TheVariants.{Match, Set}
 use Rattle.gl_lines.specs.declared.plan.ListKind.TheVariants as kinds
@@ -21,7 +21,8 @@ orders = refl
 no_entry : spelled_order [] ≡ codes "-"
 no_entry = refl
 
-event : changes_text (delete 0 (num (pos 7)) ∷ insertion 0 (num (pos 7)) ∷ []) ≡ codes "delete 0 7; insert 0 7"
+event : changes_text (delete 0 (num (pos 7)) ∷ insertion 0 (num (pos 7)) ∷ [])
+    ≡ codes "delete 0 7; insert 0 7"
 unfolding digits
 event = refl
 
@@ -58,10 +59,12 @@ unfolding digits
 narrow_text = refl
 
 -- the writer of the short plan has one section
-short_again : replayed short (Writer 0 ∷ Writer 0 ∷ []) ≡ misfit (record { place = 1; reason = no_section })
+short_again : replayed short (Writer 0 ∷ Writer 0 ∷ [])
+    ≡ misfit (record { place = 1; reason = no_section })
 short_again = refl
 
-short_again_text : text_of_outcome (misfit (record { place = 1; reason = no_section })) ≡ codes "order: place 1: no-section\n"
+short_again_text : text_of_outcome (misfit (record { place = 1; reason = no_section }))
+    ≡ codes "order: place 1: no-section\n"
 unfolding digits
 short_again_text = refl
 

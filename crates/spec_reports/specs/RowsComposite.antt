@@ -1,8 +1,8 @@
 -- Whole reports of plans with a composite.
 use Rattle.std.specs.Prelude.{◌≡◌, ◌++◌, [], ◌∷◌, refl, codes}
 use Rattle.std.specs.Fmt.{digits}
-use Rattle.spec_lang.specs.Matcher.{all, is}
-use Rattle.spec_lang.specs.declared.Test.TheVariants.{Gt}
+use Rattle.spec_syntax.specs.LangMatcher.{all, is}
+use Rattle.spec_syntax.specs.Test.TheVariants.{Gt}
 use Rattle.gl_outside.specs.declared.gate.Actor.TheVariants.{Writer}
 use Rattle.gl_lines.specs.declared.plan.Command.TheVariants as c
 use Rattle.gl_lines.specs.declared.plan.ListKind.TheVariants as kinds

@@ -80,7 +80,7 @@ set_twice_report :
 unfolding digits
 set_twice_report = refl
 
--- an insert may stand behind the last element, a set and a remove may not
+-- an insert may stand after the last element, a set and a remove may not
 abbrev boundaries : Plan
 boundaries = record {
   limit = usual_limit;

@@ -1,9 +1,9 @@
 -- Whole reports of plans with a filter.
 use Rattle.std.specs.Prelude.{◌≡◌, ◌++◌, [], ◌∷◌, refl, codes}
 use Rattle.std.specs.Fmt.{digits}
-use Rattle.spec_value.specs.Tree.{text}
-use Rattle.spec_lang.specs.Matcher.{all, is, both, matchers}
-use Rattle.spec_lang.specs.declared.Test.TheVariants.{Eq, Gt}
+use Rattle.spec_plans.specs.Tree.{text}
+use Rattle.spec_syntax.specs.LangMatcher.{all, is, both, matchers}
+use Rattle.spec_syntax.specs.Test.TheVariants.{Eq, Gt}
 use Rattle.gl_outside.specs.declared.gate.Actor.TheVariants.{Writer}
 use Rattle.gl_lines.specs.declared.plan.Command.TheVariants as c
 use Rattle.gl_lines.specs.declared.plan.ListKind.TheVariants as kinds

@@ -1,11 +1,11 @@
 -- The whole report of a plan over a list of issues, with two writers and a proxy.
 use Rattle.std.specs.Prelude.{◌≡◌, ◌++◌, ℕ, true, List, [], ◌∷◌, refl, codes}
 use Rattle.std.specs.Fmt.{digits}
-use Rattle.spec_value.specs.Tree.{Tree, text, items_of}
-use Rattle.spec_lang.specs.Matcher.{is, both, matchers}
-use Rattle.spec_lang.specs.Func.{count, at_path, funcs, list as func_list}
-use Rattle.spec_lang.specs.Sorting.{Key}
-use Rattle.spec_lang.specs.declared.Test.TheVariants.{Eq, Ne}
+use Rattle.spec_plans.specs.Tree.{Tree, text, items_of}
+use Rattle.spec_syntax.specs.LangMatcher.{is, both, matchers}
+use Rattle.spec_syntax.specs.LangFunc.{count, at_path, funcs, list as func_list}
+use Rattle.spec_syntax.specs.Sorting.{Key}
+use Rattle.spec_syntax.specs.Test.TheVariants.{Eq, Ne}
 use Rattle.gl_outside.specs.declared.gate.Actor.TheVariants.{Writer, Proxy}
 use Rattle.gl_lines.specs.declared.plan.Command.TheVariants as c
 use Rattle.gl_lines.specs.declared.plan.ListKind.TheVariants as kinds

@@ -1,7 +1,7 @@
 -- In which order listeners are told, and listeners that try to write back.
 use Rattle.std.specs.Prelude.{◌≡◌, ◌++◌, [], ◌∷◌, refl, codes, true, false}
 use Rattle.std.specs.Fmt.{digits}
-use Rattle.spec_lang.specs.Matcher.{all}
+use Rattle.spec_syntax.specs.LangMatcher.{all}
 use Rattle.gl_outside.specs.declared.gate.Actor.TheVariants.{Writer}
 use Rattle.gl_lines.specs.declared.plan.Command.TheVariants as c
 use Rattle.gl_lines.specs.declared.plan.ListKind.TheVariants as kinds
@@ -11,7 +11,7 @@ use Rattle.spec_reports.specs.Big.{declared, heard_by}
 use Rattle.spec_reports.specs.Report.{report}
 use Rattle.spec_reports.specs.Answer.{circular, text_of_outcome}
 
--- a listener is told after one that stands behind it
+-- a listener is told after one that stands after it
 abbrev after_a : Plan
 after_a = record {
   limit = usual_limit;

@@ -1,7 +1,7 @@
 -- Whole reports of plans with ranges.
 use Rattle.std.specs.Prelude.{◌≡◌, ◌++◌, [], ◌∷◌, refl, codes}
 use Rattle.std.specs.Fmt.{digits}
-use Rattle.spec_lang.specs.declared.Bounds.TheVariants.{Head, Tail, Middle}
+use Rattle.spec_syntax.specs.LangBounds.TheVariants.{Head, Tail, Middle}
 use Rattle.gl_outside.specs.declared.gate.Actor.TheVariants.{Writer}
 use Rattle.gl_lines.specs.declared.plan.Command.TheVariants as c
 use Rattle.gl_lines.specs.declared.plan.ListKind.TheVariants as kinds

@@ -62,8 +62,8 @@ unfolding digits
 crossing_report = refl
 
 -- a new order deletes every element and inserts it again
-abbrev turned : Plan
-turned = record {
+abbrev reversed : Plan
+reversed = record {
   limit = usual_limit;
   lists =
       declared (codes "s") (kinds.Source (numbers (1 ∷ 2 ∷ [])))
@@ -73,10 +73,10 @@ turned = record {
   writers = ((c.Order 1 (whole_down ∷ []) ∷ []) ∷ []) ∷ [];
 }
 
-turned_report :
-    report turned (Writer 0 ∷ [])
+inverse_report :
+    report reversed (Writer 0 ∷ [])
     ≡ codes "order w0\n"
     ++ codes "at 0 w0\nreply 0 ok\ntold a delete 0 1; delete 0 2; insert 0 2; insert 1 1\n"
     ++ codes "list s [1,2]\nlist o [2,1]\n"
 unfolding digits
-turned_report = refl
+inverse_report = refl

@@ -1,8 +1,8 @@
 -- The summary of a plan in an order: how much was told, and how long the lists are at the end.
 use Rattle.std.specs.Prelude.{ℕ, ◌+◌, suc, ◌==◌, if◌then◌else◌, List, [], ◌∷◌, ◌++◌, codes, decimal, length, sum, map}
-use Rattle.spec_value.specs.Tree.{Tree}
-use Rattle.spec_lists.specs.Delta.{Delta}
-use Rattle.spec_lists.specs.Changes.{changed_len}
+use Rattle.spec_plans.specs.Tree.{Tree}
+use Rattle.spec_states.specs.Delta.{Delta}
+use Rattle.spec_states.specs.Changes.{changed_len}
 use Rattle.gl_outside.specs.declared.gate.Actor.{Actor}
 use Rattle.gl_lines.specs.declared.plan.ListDecl.{ListDecl}
 use Rattle.gl_lines.specs.declared.plan.ListenerDecl.{ListenerDecl}
@@ -22,14 +22,17 @@ changes_in ds = sum (map changed_len ds)
 abbrev pub told_counts : ℕ → List ListenerDecl → List Telling → List ℕ
 told_counts number [] told = []
 told_counts number (d ∷ listeners) told =
-    codes "told " ++ d.name ++ codes " " ++ decimal (length (told_to number told)) ++ codes " " ++ decimal (changes_in (told_to number told)) ++ line_feed
+    codes "told " ++ d.name ++ codes " " ++ decimal (length (told_to number told)) ++ codes " "
+    ++ decimal (changes_in (told_to number told)) ++ line_feed
     ++ told_counts (suc number) listeners told
 
 -- `length NAME LEN` for each list
 abbrev pub length_lines : List ListDecl → Table → List ℕ
 length_lines [] shown = []
 length_lines (d ∷ lists) [] = []
-length_lines (d ∷ lists) (values ∷ shown) = codes "length " ++ d.name ++ codes " " ++ decimal (length values) ++ line_feed ++ length_lines lists shown
+length_lines (d ∷ lists) (values ∷ shown) =
+    codes "length " ++ d.name ++ codes " " ++ decimal (length values) ++ line_feed
+    ++ length_lines lists shown
 
 -- the opening length of the first list, the number of entries, what was told, and what each list's length is at the end
 abbrev pub summary : Plan → List Actor → List ℕ

@@ -20,7 +20,7 @@ use Rattle.spec_runs.specs.Run.{run}
 use Rattle.spec_plans.specs.Built.{is_built_kind, is_built_listener, is_built}
 use Rattle.spec_runs.specs.Kinds.{kind_of, KeepsKinds}
 use Rattle.spec_runs.proofs.Runs.{state_more}
-use Rattle.spec_runs.proofs.Keeping.{run_kinds, after_keeps, keeps_on}
+use Rattle.spec_runs.proofs.KeptKinds.{run_kinds, after_keeps, keeps_on}
 
 pub built_lists : (p : Plan) → is_built p ≡ true
     → list_all (λ d. is_built_kind d.kind) p.lists ≡ true

@@ -5,7 +5,7 @@ use Rattle.spec_states.specs.State.{State}
 use Rattle.spec_states.specs.Shown.{table_of, shown}
 use Rattle.spec_states.specs.Laws.{IsSound, Lead}
 use Rattle.spec_runs.specs.Entry.{Deed, section, pumping, nothing, outcome, queued}
-use Rattle.spec_runs.proofs.Keeping.{AllSuit, outcome_keeps}
+use Rattle.spec_runs.proofs.KeptKinds.{AllSuit, outcome_keeps}
 use Rattle.spec_runs.proofs.Sections.{after_sound, section_leads}
 use Rattle.spec_runs.proofs.Queues.{reaches, IsAtRest, outcome_said, queued_rests, queued_table}
 use Rattle.spec_states.proofs.Sound.{pump_sound}

@@ -16,6 +16,7 @@ use Rattle.spec_views.specs.Grouping.{group_of}
 use Rattle.spec_views.specs.Range.{start_of, end_of}
 use Rattle.spec_views.specs.View.{View, filter as filtering, sorted, unique, grouping, range, function, collection, view_of}
 use Rattle.spec_runs.specs.Kinds.{class_of_view}
+use Rattle.spec_views.proofs.Arrangements.{length-arranged}
 
 fewer : (p : Tree → Bool) (xs : List Tree) → length (filter p xs) ≤ length xs
 fewer p [] = omega arith
@@ -25,16 +26,6 @@ fewer p (x ∷ xs) = by_test (p x) (fewer p xs)
         → length (cond b (x ∷ filter p xs) (filter p xs)) ≤ length (x ∷ xs)
     by_test true h = omega (arith, h)
     by_test false h = omega (arith, h)
-
-length-arranged : (before : ℕ → ℕ → Bool) (i : ℕ) (js : List ℕ)
-    → length (arranged_with before i js) ≡ suc (length js)
-length-arranged before i [] = refl
-length-arranged before i (j ∷ js) = by_test (before i j) (length-arranged before i js)
-  where
-    by_test : (b : Bool) → length (arranged_with before i js) ≡ suc (length js)
-        → length (cond b (i ∷ j ∷ js) (j ∷ arranged_with before i js)) ≡ suc (length (j ∷ js))
-    by_test true h = refl
-    by_test false h = ap suc h
 
 arranged_from : (before : ℕ → ℕ → Bool) (js ks : List ℕ)
     → length (fold (λ placed i. arranged_with before i placed) js ks) ≡ length js + length ks

@@ -2,7 +2,7 @@
 use Rattle.std.proofs.Common.{◌≡◌, ◌∙◌, ◌<◌, ◌≤◌, ◌++◌, ℕ, Bool, true, false, cond, List, [], ◌∷◌, length, fold, refl, ap, sym, subst, arith}
 use Rattle.std.specs.Prelude.{Option, Some, None, slice_get}
 use Rattle.std.specs.List.{Contains}
-use Rattle.spec_order.proofs.Members.{Contains-here}
+use Rattle.spec_plans.proofs.Members.{Contains-here}
 use Rattle.spec_value.specs.Tree.{Tree}
 use Rattle.spec_lists.specs.Delta.{Delta, is_identity}
 use Rattle.spec_lists.specs.Leads.{applied}
@@ -13,23 +13,23 @@ use Rattle.gl_lines.specs.declared.plan.ListKind.{ListKind}
 use Rattle.gl_lines.specs.declared.plan.ListKind.TheVariants as kinds
 use Rattle.spec_plans.specs.Plan.{Plan, commands_of, proxies_of}
 use Rattle.spec_plans.specs.Cycles.{IsAcyclic}
-use Rattle.spec_canonical.specs.WellFormed.{IsWellFormed}
+use Rattle.spec_plans.specs.WellFormed.{IsWellFormed}
 use Rattle.spec_states.specs.State.{Own, State, source, over, composite, transaction, freezable, proxy, inputs, own_at, opening_of}
 use Rattle.spec_states.specs.Shown.{shown, table_of}
 use Rattle.spec_states.specs.Opening.{opening, shown_first}
 use Rattle.spec_states.specs.Wave.{Deltas, delta_in}
 use Rattle.spec_states.specs.Step.{too_long}
 use Rattle.spec_states.specs.Laws.{IsSound, Lead}
-use Rattle.spec_states.proofs.Turns.{input_within}
+use Rattle.spec_states.proofs.DependencyOrder.{input_within}
 use Rattle.spec_states.proofs.Views.{length-table_of}
 use Rattle.spec_runs.specs.Entry.{Deed, outcome, pumping_of, next_deed, taken_by, with_queued, queued_own, queued}
 use Rattle.spec_runs.specs.Run.{Run, run, start, entry, shown_after}
 use Rattle.spec_runs.specs.Kinds.{KeepsKinds}
 use Rattle.spec_runs.specs.Laws.{applied_all}
-use Rattle.spec_runs.proofs.Keeping.{keeps_same, keeps_on, outcome_keeps, entry_keeps, own_at_queued, length-state, queued_keeps}
+use Rattle.spec_runs.proofs.KeptKinds.{keeps_same, keeps_on, outcome_keeps, entry_keeps, own_at_queued, length-state, queued_keeps}
 use Rattle.spec_runs.proofs.Queues.{reaches, OfProxy, IsAtRest, outcome_said, queued_within}
 use Rattle.spec_runs.proofs.Entries.{DeedSuits, outcome_sound, outcome_leads, entry_rests}
-use Rattle.spec_runs.proofs.Suiting.{opening_at, deed_suits}
+use Rattle.spec_runs.proofs.Suits.{opening_at, deed_suits}
 use Rattle.spec_runs.proofs.Ordered.{decl_at, opening_rests, run_ordered}
 use Rattle.spec_runs.proofs.Within.{after_within, shown_few}
 use Rattle.spec_runs.proofs.Pumps.{NeverLong, short, short_pumped, IsFew, proxy_at, pump_within}

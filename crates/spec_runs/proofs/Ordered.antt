@@ -9,19 +9,17 @@ use Rattle.gl_lines.specs.declared.plan.Command.{Command}
 use Rattle.gl_lines.specs.declared.plan.ListDecl.{ListDecl}
 use Rattle.gl_lines.specs.declared.plan.ListKind.{ListKind}
 use Rattle.gl_lines.specs.declared.plan.ListKind.TheVariants as kinds
-use Rattle.spec_order.specs.Edges.{AreWithin}
-use Rattle.spec_order.specs.Order.{IsOrder}
-use Rattle.spec_order.specs.Cycle.{HasCycle}
-use Rattle.spec_order.proofs.Exists.{order_or_cycle}
-use Rattle.spec_order.proofs.Fronts.{front_below}
-use Rattle.spec_order.proofs.Members.{Contains-here, Contains-later}
+use Rattle.spec_plans.specs.Edges.{AreWithin}
+use Rattle.spec_plans.specs.Order.{IsOrder}
+use Rattle.spec_plans.specs.Cycle.{HasCycle}
+use Rattle.spec_plans.proofs.Exists.{order_or_cycle}
+use Rattle.spec_plans.proofs.Prefixes.{prefix_below}
+use Rattle.spec_plans.proofs.Members.{Contains-here, Contains-later}
 use Rattle.spec_plans.specs.declared.class.ListClass.TheVariants.{Edited}
 use Rattle.spec_plans.specs.Plan.{Plan, listener_edges}
 use Rattle.spec_plans.specs.Cycles.{IsAcyclic}
-use Rattle.spec_canonical.specs.WellFormed.{HasList, HasInputs, HasHeard, IsWellFormed}
-use Rattle.spec_canonical.proofs.Said.{all_weaker}
-use Rattle.spec_canonical.proofs.Makes.{all_by_place}
-use Rattle.spec_canonical.proofs.Within.{lists_within, listeners_within}
+use Rattle.spec_plans.specs.WellFormed.{HasList, HasInputs, HasHeard, IsWellFormed}
+use Rattle.spec_plans.proofs.Within.{lists_within, listeners_within}
 use Rattle.spec_views.specs.View.{filter, sorted, unique, grouping, range, function, collection}
 use Rattle.spec_states.specs.State.{Own, State, source, over, composite, transaction, freezable, proxy, inputs, own_at, opening_of}
 use Rattle.spec_states.specs.Shown.{shown, EachShowsItsView}
@@ -29,17 +27,18 @@ use Rattle.spec_states.specs.Opening.{opening, shown_first}
 use Rattle.spec_states.specs.Laws.{IsOrdered, IsSource, Fits, IsSound}
 use Rattle.spec_runs.specs.Section.{state_after}
 use Rattle.spec_runs.specs.Entry.{next_deed}
-use Rattle.spec_runs.specs.Telling.{listener_turns}
+use Rattle.spec_runs.specs.Telling.{listener_dependency_order}
 use Rattle.spec_runs.specs.Run.{Run, run, start, entry}
 use Rattle.spec_runs.specs.Kinds.{class_of_own, KeepsKinds, IsFor}
-use Rattle.spec_runs.proofs.Keeping.{keeps_same, keeps_on, entry_keeps, run_kinds}
+use Rattle.spec_runs.proofs.KeptKinds.{keeps_same, keeps_on, entry_keeps, run_kinds}
 use Rattle.spec_runs.proofs.Queues.{Reaches, IsAtRest}
 use Rattle.spec_runs.proofs.Entries.{DeedSuits, entry_rests}
 use Rattle.spec_runs.proofs.Sections.{after_sound}
-use Rattle.spec_runs.proofs.Suiting.{opening_at, opening_has, deed_suits, all_suit}
-use Rattle.spec_states.proofs.Turns.{input_within}
+use Rattle.spec_runs.proofs.Suits.{opening_at, opening_has, deed_suits, all_suit}
+use Rattle.spec_states.proofs.DependencyOrder.{input_within}
 use Rattle.spec_states.proofs.Views.{views_of_state}
 use Rattle.spec_states.proofs.Openings.{length-opening, opening_ordered, opening_shows}
+use Rattle.spec_views.proofs.Lists.{all_weaker, all_by_index}
 
 pub well_formed_ordered : (p : Plan) → IsWellFormed p → IsAcyclic p → IsOrdered (opening p)
 well_formed_ordered p h free = opening_ordered p (lists_within p h) free.lists
@@ -68,7 +67,7 @@ is_source (freezable input since) e = absurd cc
 is_source (proxy input kept queue) e = absurd cc
 
 all_among : (xs ys : List ℕ) → AllByRecursion (λ x. Contains (xs ++ ys) x) xs
-all_among xs ys = all_by_place (λ x. Contains (xs ++ ys) x) xs (λ k x e. Contains-append_left xs ys x (contains_at xs k x e))
+all_among xs ys = all_by_index (λ x. Contains (xs ++ ys) x) xs (λ k x e. Contains-append_left xs ys x (contains_at xs k x e))
   where
     contains_at : (xs : List ℕ) (k x : ℕ) → slice_get xs k ≡ Some x → Contains xs x
     contains_at [] k x e = absurd cc
@@ -152,28 +151,28 @@ opening_sound p h free = (opening_rests p h free).sound
 -- listeners that are told after listeners of the plan, and none after itself through others, have an order
 pub listeners_ordered : (p : Plan) → AreWithin (length p.listeners) (listener_edges p)
     → ¬ HasCycle (listener_edges p)
-    → IsOrder (length p.listeners) (listener_edges p) (listener_turns p)
+    → IsOrder (length p.listeners) (listener_edges p) (listener_dependency_order p)
 listeners_ordered p within free = elim (order_or_cycle (length p.listeners) (listener_edges p) within) [
   | inl order ↦ order
   | inr cycle ↦ absurd (free cycle)
 ]
 
 pub well_formed_listeners : (p : Plan) → IsWellFormed p → IsAcyclic p
-    → IsOrder (length p.listeners) (listener_edges p) (listener_turns p)
+    → IsOrder (length p.listeners) (listener_edges p) (listener_dependency_order p)
 well_formed_listeners p h free = listeners_ordered p (listeners_within p h) free.listeners
 
 -- it has each of them, once, and nothing else
-pub length-listener_turns : (p : Plan)
-    → IsOrder (length p.listeners) (listener_edges p) (listener_turns p)
-    → length (listener_turns p) ≡ length p.listeners
-length-listener_turns p h = h.whole
+pub length-listener_dependency_order : (p : Plan)
+    → IsOrder (length p.listeners) (listener_edges p) (listener_dependency_order p)
+    → length (listener_dependency_order p) ≡ length p.listeners
+length-listener_dependency_order p h = h.whole
 
-pub listener_turns_below : (p : Plan)
-    → IsOrder (length p.listeners) (listener_edges p) (listener_turns p)
-    → AllByRecursion (λ k. k < length p.listeners) (listener_turns p)
-listener_turns_below p h =
-    recursion_from_All (λ k. k < length p.listeners) (listener_turns p)
-    (front_below (length p.listeners) (listener_edges p) (listener_turns p) h.front)
+pub listener_order_below : (p : Plan)
+    → IsOrder (length p.listeners) (listener_edges p) (listener_dependency_order p)
+    → AllByRecursion (λ k. k < length p.listeners) (listener_dependency_order p)
+listener_order_below p h =
+    recursion_from_All (λ k. k < length p.listeners) (listener_dependency_order p)
+    (prefix_below (length p.listeners) (listener_edges p) (listener_dependency_order p) h.prefix)
 
 -- and each of them hears a list of the plan
 pub heard_within : (p : Plan) → IsWellFormed p

@@ -13,10 +13,10 @@ use Rattle.spec_plans.specs.Built.{is_built_kind, is_built}
 use Rattle.spec_states.specs.State.{Own, State, source, over, composite, transaction, freezable, proxy, own_at, opening_of}
 use Rattle.spec_states.specs.Shown.{is_held}
 use Rattle.spec_states.specs.Opening.{opening, shown_first}
-use Rattle.spec_states.proofs.Plain.{IsPlainOwn, IsPlain}
+use Rattle.spec_states.proofs.Plain.{IsPlainOwn, IsPlain, plain_free}
 use Rattle.spec_runs.specs.Kinds.{kind_of, KeepsKinds}
 use Rattle.spec_runs.specs.Run.{run}
-use Rattle.spec_runs.proofs.Keeping.{run_kinds}
+use Rattle.spec_runs.proofs.KeptKinds.{run_kinds}
 use Rattle.spec_runs.proofs.Built.{built_lists}
 
 plain_by_kind : (own : Own) → IsPlainOwn (kind_of own) → IsPlainOwn own
@@ -66,12 +66,3 @@ built_plain p s built keeps list =
 
 pub run_plain : (p : Plan) (order : List Actor) → is_built p ≡ true → IsPlain (run p order).state
 run_plain p order built = built_plain p (run p order).state built (run_kinds p order)
-
--- such lists are never held
-pub plain_unheld : (own : Own) → IsPlainOwn own → is_held own ≡ false
-plain_unheld (source contents) h = refl
-plain_unheld (over input view) h = refl
-plain_unheld (composite needed members) h = absurd h
-plain_unheld (transaction input levels) h = absurd h
-plain_unheld (freezable input since) h = absurd h
-plain_unheld (proxy input kept queue) h = absurd h

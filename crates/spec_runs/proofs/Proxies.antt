@@ -5,7 +5,7 @@ use Rattle.std.specs.List.{Contains}
 use Rattle.std.proofs.lemmas.Bool.{eqb-true, eqb-false, ne_eqb}
 use Rattle.std.proofs.lemmas.Option.{slice_get_within}
 use Rattle.std.proofs.lemmas.List.{append_assoc, append-nil, drop-append-le, length-append}
-use Rattle.spec_order.proofs.Members.{Contains-here}
+use Rattle.spec_plans.proofs.Members.{Contains-here}
 use Rattle.spec_value.specs.Tree.{Tree}
 use Rattle.spec_lists.specs.Delta.{Delta, is_identity}
 use Rattle.spec_lists.specs.Leads.{applied}
@@ -17,13 +17,13 @@ use Rattle.gl_lines.specs.declared.plan.ListKind.TheVariants as kinds
 use Rattle.gl_lines.specs.declared.plan.Command.{Command}
 use Rattle.spec_plans.specs.Plan.{Plan, commands_of, proxies_from, proxies_of}
 use Rattle.spec_plans.specs.Cycles.{IsAcyclic}
-use Rattle.spec_canonical.specs.WellFormed.{IsWellFormed}
+use Rattle.spec_plans.specs.WellFormed.{IsWellFormed}
 use Rattle.spec_states.specs.State.{Own, State, proxy, inputs, own_at, opening_of}
 use Rattle.spec_states.specs.Shown.{shown_of, shown}
 use Rattle.spec_states.specs.Opening.{opening, shown_first}
-use Rattle.spec_states.specs.Wave.{delta_in, wave_deltas, wave, pump, pumped, kept_behind}
+use Rattle.spec_states.specs.Wave.{delta_in, wave_deltas, wave, pump, pumped, kept_later}
 use Rattle.spec_states.specs.Laws.{IsOrdered}
-use Rattle.spec_states.proofs.Turns.{input_within}
+use Rattle.spec_states.proofs.DependencyOrder.{input_within}
 use Rattle.spec_states.proofs.Views.{own_at_wave, shown_is}
 use Rattle.spec_runs.specs.Section.{state_after}
 use Rattle.spec_runs.specs.Entry.{taken_by, pumping_of, outcome, with_queued, queued_own}
@@ -32,12 +32,12 @@ use Rattle.spec_runs.specs.Fits.{Reason, reason_at, reason_of_queue, reason_of_p
 use Rattle.spec_runs.specs.Prefix.{entry_delta, is_proxy, pumps_of}
 use Rattle.spec_runs.specs.Laws.{heard, applied_all, EachProxyFollows}
 use Rattle.spec_runs.proofs.Runs.{outcome_after, state_more}
-use Rattle.spec_runs.proofs.Keeping.{own_at_queued, length-state, proxy_kept, after_keeps}
+use Rattle.spec_runs.proofs.KeptKinds.{own_at_queued, length-state, proxy_kept, after_keeps}
 use Rattle.spec_runs.proofs.Queues.{Reaches, IsAtRest, OfProxy, after_said}
-use Rattle.spec_runs.proofs.Suiting.{opening_at}
+use Rattle.spec_runs.proofs.Suits.{opening_at}
 use Rattle.spec_runs.proofs.Ordered.{opening_rests, run_rests}
-use Rattle.spec_runs.proofs.Hearing.{delta_leads}
-use Rattle.spec_runs.proofs.Following.{changed_from, shown_before, EachLeads, shown_next_before, shown_push, changed_push}
+use Rattle.spec_runs.proofs.Heard.{delta_leads}
+use Rattle.spec_runs.proofs.Follows.{changed_from, shown_before, EachLeads, shown_next_before, shown_push, changed_push}
 use Rattle.spec_states.proofs.Openings.{length-opening, opening_shows}
 
 -- ---- the numbers of proxies
@@ -173,9 +173,9 @@ pump_other s list other input kept queue within ne own =
     own_at_wave s (pump other) list within ∙ by_test (list == other) (ne_eqb list other ne)
   where
     by_test : (b : Bool) → b ≡ false
-        → cond b (pumped (own_at s list)) (kept_behind list (own_at s list) (delta_in (wave_deltas s (pump other)))) ≡ proxy input kept queue
+        → cond b (pumped (own_at s list)) (kept_later list (own_at s list) (delta_in (wave_deltas s (pump other)))) ≡ proxy input kept queue
     by_test true e = absurd cc
-    by_test false e = ap (λ o. kept_behind list o (delta_in (wave_deltas s (pump other)))) own
+    by_test false e = ap (λ o. kept_later list o (delta_in (wave_deltas s (pump other)))) own
 
 -- its own pump takes the first delta of its queue
 pub pump_self : (s : State) (list input : ℕ) (kept : List Tree) (d : Delta) (queue : List Delta)
@@ -185,7 +185,7 @@ pump_self s list input kept d queue within own =
     own_at_wave s (pump list) list within ∙ by_test (list == list) (eq-eqb list list refl)
   where
     by_test : (b : Bool) → b ≡ true
-        → cond b (pumped (own_at s list)) (kept_behind list (own_at s list) (delta_in (wave_deltas s (pump list)))) ≡ proxy input (applied d kept) queue
+        → cond b (pumped (own_at s list)) (kept_later list (own_at s list) (delta_in (wave_deltas s (pump list)))) ≡ proxy input (applied d kept) queue
     by_test true e = ap pumped own
     by_test false e = absurd cc
 
@@ -265,7 +265,7 @@ comes_step p n list input order (Proxy m) leads at_n within none c = by_number (
               ∙ sym (shown_next_before p input leads [] order (pumps_of n order) found.0 left.0);
         })
 
--- of the first place of what is left of an order, and of the places behind it
+-- of the first place of what is left of an order, and of the places after it
 pub places_apart : (p : Plan) (before : List Actor) (a : Actor) (rest : List Actor)
     → bad_place_from p before (a ∷ rest) ≡ None
     → (reason_at p before a ≡ None) × (bad_place_from p (before ++ a ∷ []) rest ≡ None)

@@ -6,13 +6,13 @@ use Rattle.std.specs.List.{Contains}
 use Rattle.std.proofs.lemmas.Bool.{eqb-true, eqb-false}
 use Rattle.std.proofs.lemmas.List.Elements.{All-contains}
 use Rattle.std.proofs.lemmas.Option.{slice_get-map}
-use Rattle.spec_order.proofs.Fronts.{front_below}
-use Rattle.spec_order.proofs.Members.{Contains-here}
-use Rattle.spec_order.specs.Edges.{DependsOn}
+use Rattle.spec_plans.proofs.Prefixes.{prefix_below}
+use Rattle.spec_plans.proofs.Members.{Contains-here}
+use Rattle.spec_plans.specs.Edges.{DependsOn}
 use Rattle.spec_value.specs.Tree.{Tree}
 use Rattle.spec_lists.specs.Delta.{Delta, no_change}
 use Rattle.spec_lists.specs.Leads.{IsDelta, applied}
-use Rattle.spec_lists.proofs.Leading.{applied_no_change}
+use Rattle.spec_lists.proofs.DeltaLeads.{applied_no_change}
 use Rattle.gl_lines.specs.declared.plan.ListDecl.{ListDecl}
 use Rattle.gl_lines.specs.declared.plan.ListKind.{ListKind}
 use Rattle.gl_lines.specs.declared.plan.ListKind.TheVariants as kinds
@@ -20,28 +20,29 @@ use Rattle.spec_plans.specs.declared.class.ListClass.{ListClass}
 use Rattle.spec_plans.specs.declared.class.ListClass.TheVariants.{Collected, Pumped}
 use Rattle.spec_plans.specs.NameFaults.{shuns_proxies}
 use Rattle.spec_plans.specs.Plan.{Plan, inputs_of, list_edges, proxies_from, proxies_of}
-use Rattle.spec_canonical.specs.WellFormed.{class_of_kind, class_at, inputs_at, LeadsTo, IsWellFormed}
-use Rattle.spec_canonical.proofs.Walks.{needed_edge}
+use Rattle.spec_plans.specs.WellFormed.{class_of_kind, class_at, inputs_at, LeadsTo, IsWellFormed}
+use Rattle.spec_plans.proofs.Walks.{needed_edge}
 use Rattle.spec_views.specs.View.{View, filter, sorted, unique, grouping, range, function, collection, view_of}
-use Rattle.spec_states.specs.State.{Own, State, source, over, composite, transaction, freezable, proxy, inputs, own_at, edges_of, turns}
+use Rattle.spec_states.specs.State.{Own, State, source, over, composite, transaction, freezable, proxy, inputs, own_at, edges_of, dependency_order}
 use Rattle.spec_states.specs.Shown.{is_held, shown_of, table_of, shown}
 use Rattle.spec_states.specs.Opening.{opening, shown_first}
-use Rattle.spec_states.specs.Wave.{pump, delta_in, wave_deltas, wave, delta_by, begun_with, follow, kept_behind, pumped}
+use Rattle.spec_states.specs.Wave.{pump, delta_in, wave_deltas, wave, delta_by, begun_with, follow, kept_later, pumped}
 use Rattle.spec_states.specs.Step.{too_long}
 use Rattle.spec_states.specs.Laws.{IsSound, Lead}
-use Rattle.spec_states.proofs.Turns.{ordered, by_inputs}
+use Rattle.spec_states.proofs.DependencyOrder.{ordered, by_inputs}
 use Rattle.spec_states.proofs.Views.{length-table_of, length-wave, own_at_wave, Inward, shown_is, shown_local, fits_inward}
 use Rattle.spec_states.proofs.Told.{each_follows}
 use Rattle.spec_states.proofs.Sound.{pump_sound}
 use Rattle.spec_states.proofs.Waves.{pump_leads}
 use Rattle.spec_states.proofs.Openings.{length-opening}
 use Rattle.spec_runs.specs.Kinds.{class_of_view, class_of_own, KeepsKinds}
-use Rattle.spec_runs.proofs.Keeping.{wave_keeps, inputs_kept, class_kept}
+use Rattle.spec_runs.proofs.KeptKinds.{wave_keeps, inputs_kept, class_kept}
 use Rattle.spec_runs.proofs.Queues.{Said, OfProxy, StaysPumped, pump_said}
-use Rattle.spec_runs.proofs.Suiting.{opening_at, opening_class, inputs_opening}
+use Rattle.spec_runs.proofs.Suits.{opening_at, opening_class, inputs_opening}
 use Rattle.spec_runs.proofs.Ordered.{decl_at}
 use Rattle.spec_runs.proofs.Lengths.{no_longer}
-use Rattle.spec_runs.proofs.Within.{shown_few, few_shown}
+use Rattle.spec_runs.proofs.Within.{shown_few}
+use Rattle.spec_states.proofs.Longer.{few_shown}
 
 -- ---- what a proxy comes to show
 
@@ -145,7 +146,7 @@ stays_same d xs ys h e = h.ends ∙ ap (λ c. applied c xs) e ∙ applied_no_cha
 record Behind (p : Plan) (s : State) (number k : ℕ) (own : Own) : Type 0 where
   was : shown s k ≡ shown_of own (shown s)
   is : shown (wave s (pump number)) k
-      ≡ shown_of (kept_behind k own (delta_in (wave_deltas s (pump number)))) (shown (wave s (pump number)))
+      ≡ shown_of (kept_later k own (delta_in (wave_deltas s (pump number)))) (shown (wave s (pump number)))
   low : length (shown s k) ≤ p.limit
   leads : IsDelta (delta_in (wave_deltas s (pump number)) k) (shown s k) (shown (wave s (pump number)) k)
   delta : delta_in (wave_deltas s (pump number)) k
@@ -207,24 +208,24 @@ over_stands p s number k input view h = record { few = by_class (is_collected (c
         no_longer view (shown t input) other in
         subst (λ xs. length xs ≤ p.limit) (sym h.is) (omega (arith, below, fewer))
 
-behind_stands : (p : Plan) (s : State) (number k : ℕ) (own : Own) → Behind p s number k own
+after_stands : (p : Plan) (s : State) (number k : ℕ) (own : Own) → Behind p s number k own
     → Stands p s number k
-behind_stands p s number k (source contents) h =
+after_stands p s number k (source contents) h =
     still_stands p s number k (source contents) h (h.delta ∙ ap (λ xs. no_change (length xs)) (sym h.was))
-behind_stands p s number k (over input view) h = over_stands p s number k input view h
-behind_stands p s number k (composite needed members) h =
+after_stands p s number k (over input view) h = over_stands p s number k input view h
+after_stands p s number k (composite needed members) h =
     same_stands p s number k (composite needed members) h
     (h.is ∙ shown_local (composite needed members) h.inward (shown (wave s (pump number))) (shown s)
     (h.stay (h.shun refl)) ∙ sym h.was)
-behind_stands p s number k (transaction input []) h =
+after_stands p s number k (transaction input []) h =
     through_stands p s number k input (transaction input []) h (Contains-here input [] input refl) h.was h.is
-behind_stands p s number k (transaction input (level ∷ levels)) h =
+after_stands p s number k (transaction input (level ∷ levels)) h =
     still_stands p s number k (transaction input (level ∷ levels)) h h.delta
-behind_stands p s number k (freezable input None) h =
+after_stands p s number k (freezable input None) h =
     through_stands p s number k input (freezable input None) h (Contains-here input [] input refl) h.was h.is
-behind_stands p s number k (freezable input (Some since)) h =
+after_stands p s number k (freezable input (Some since)) h =
     still_stands p s number k (freezable input (Some since)) h h.delta
-behind_stands p s number k (proxy input kept queue) h = still_stands p s number k (proxy input kept queue) h h.delta
+after_stands p s number k (proxy input kept queue) h = still_stands p s number k (proxy input kept queue) h h.delta
 
 no_view : (view : View) → class_of_view view ≡ Pumped → ⊥
 no_view (filter matcher) e = absurd cc
@@ -270,11 +271,11 @@ other_stands : (p : Plan) (s : State) (number k : ℕ) → Pumps p s number → 
     → (k ≡ number → ⊥) → (k == number) ≡ false
     → ((i : ℕ) → Contains (inputs (own_at s k)) i → Stands p s number i) → Stands p s number k
 other_stands p s number k h within other test stand =
-    behind_stands p s number k (own_at s k) (record {
+    after_stands p s number k (own_at s k) (record {
       was = shown_is s h.sound k within;
       is =
           shown_is t (pump_sound s number h.sound) k (omega (arith, length-wave s (pump number), within))
-          ∙ ap (λ own. shown_of own (shown t)) (own_at_wave s (pump number) k within ∙ behind (k == number) test);
+          ∙ ap (λ own. shown_of own (shown t)) (own_at_wave s (pump number) k within ∙ after (k == number) test);
       low = shown_few p.limit s k sound.ordered few.lists within;
       leads = lead.each k (omega (arith, length-table_of s, within));
       delta = each_follows s (pump number) k h.sound within ∙ by_test (k == number) test;
@@ -299,10 +300,10 @@ other_stands p s number k h within other test stand =
     lead : Lead (wave_deltas s (pump number)) (table_of s) (table_of t)
     lead = pump_leads s number h.sound
 
-    behind : (b : Bool) → b ≡ false
-        → cond b (pumped (own_at s k)) (kept_behind k (own_at s k) (delta_in (wave_deltas s (pump number)))) ≡ kept_behind k (own_at s k) (delta_in (wave_deltas s (pump number)))
-    behind true e = absurd cc
-    behind false e = refl
+    after : (b : Bool) → b ≡ false
+        → cond b (pumped (own_at s k)) (kept_later k (own_at s k) (delta_in (wave_deltas s (pump number)))) ≡ kept_later k (own_at s k) (delta_in (wave_deltas s (pump number)))
+    after true e = absurd cc
+    after false e = refl
 
     by_test : (b : Bool) → b ≡ false
         → delta_by b (is_held (own_at s k)) (begun_with (pump number) (own_at s number) (shown s)) (no_change (length (shown s k))) (follow (own_at s k) (shown s) (delta_in (wave_deltas s (pump number)))) ≡ delta_by false (is_held (own_at s k)) (begun_with (pump number) (own_at s number) (shown s)) (no_change (length (shown s k))) (follow (own_at s k) (shown s) (delta_in (wave_deltas s (pump number))))
@@ -342,7 +343,7 @@ pump_within p s number formed keeps sound few is_pumped =
     let h : Pumps p s number =
     record { formed = formed; keeps = keeps; sound = sound; few = few; pumped = is_pumped } in
     let order = ordered t (pump_sound s number sound).ordered in
-    few_shown p.limit (table_of t) (turns t) (λ list c.
+    few_shown p.limit (table_of t) (dependency_order t) (λ list c.
     let within : list < length t =
-    All-contains (λ k. k < length t) (turns t) list (front_below (length t) (edges_of t) (turns t) order.front) c in
+    All-contains (λ k. k < length t) (dependency_order t) list (prefix_below (length t) (edges_of t) (dependency_order t) order.prefix) c in
     (each_stands p s number h list (omega (arith, length-wave s (pump number), within))).few)

@@ -2,27 +2,27 @@
 use Rattle.std.proofs.Common.{◌≡◌, ◌∙◌, ◌<◌, ◌++◌, ℕ, Bool, true, false, List, [], ◌∷◌, length, map, slice_set, refl, ap, sym, subst, arith, cond, eqb}
 use Rattle.std.specs.Prelude.{◌↔◌, Option, Some, None, ⊤}
 use Rattle.std.specs.List.{Contains}
-use Rattle.spec_order.proofs.Members.{Contains-here}
+use Rattle.spec_plans.proofs.Members.{Contains-here}
 use Rattle.spec_value.specs.Tree.{Tree}
 use Rattle.spec_lists.specs.Piece.{IsNormal}
 use Rattle.spec_lists.specs.Delta.{Delta, is_identity}
 use Rattle.spec_lists.specs.Leads.{LeadsFrom, IsDelta, applied}
-use Rattle.spec_lists.proofs.Leading.{applied_no_change}
+use Rattle.spec_lists.proofs.DeltaLeads.{applied_no_change}
 use Rattle.gl_lines.specs.declared.plan.Command.{Command}
 use Rattle.gl_lines.specs.declared.reply.Reply.{Reply}
 use Rattle.spec_plans.specs.Plan.{origin}
-use Rattle.spec_states.specs.State.{Own, State, source, over, composite, transaction, freezable, proxy, inputs, own_at, edges_of, turns}
+use Rattle.spec_states.specs.State.{Own, State, source, over, composite, transaction, freezable, proxy, inputs, own_at, edges_of, dependency_order}
 use Rattle.spec_states.specs.Shown.{Table, shows_in, shown_of, settle_one, settled, nothing_shown, table_of, shown}
-use Rattle.spec_states.specs.Wave.{command, pump, Deltas, delta_in, wave_deltas, wave, kept_after, pumped, kept_behind}
+use Rattle.spec_states.specs.Wave.{command, pump, Deltas, delta_in, wave_deltas, wave, kept_after, pumped, kept_later}
 use Rattle.spec_states.specs.Step.{step, step_by, unmoved, too_long, first_longer}
 use Rattle.spec_states.specs.Laws.{LeadOnFrom, IsSource, Fits, IsSound, Lead}
 use Rattle.spec_runs.specs.Section.{state_after}
 use Rattle.spec_runs.specs.Entry.{Deed, section, pumping, nothing, outcome, with_queued, queued_own, queued}
 use Rattle.spec_runs.specs.Kinds.{kind_of, KeepsKinds}
 use Rattle.spec_runs.specs.Laws.{applied_all}
-use Rattle.spec_runs.proofs.Keeping.{step_keeps, kept_edges, kept_turns, own_at_queued, queued_keeps}
+use Rattle.spec_runs.proofs.KeptKinds.{step_keeps, kept_edges, kept_order, own_at_queued, queued_keeps}
 use Rattle.spec_runs.proofs.Identities.{identity_stays}
-use Rattle.spec_states.proofs.Turns.{input_within}
+use Rattle.spec_states.proofs.DependencyOrder.{input_within}
 use Rattle.spec_states.proofs.Views.{own_at_wave, length-table_of}
 
 -- ---- queueing changes nothing that is shown
@@ -47,9 +47,9 @@ same_settled deltas s t (list ∷ lists) =
 
 pub queued_table : (deltas : Deltas) (s : State) → table_of (queued deltas s) ≡ table_of s
 queued_table deltas s =
-    ap (λ t. settled (queued deltas s) t (turns (queued deltas s))) (same_nothing s (queued_own (delta_in deltas)))
-    ∙ ap (settled (queued deltas s) (nothing_shown s)) (kept_turns s (queued deltas s) (queued_keeps deltas s))
-    ∙ same_settled deltas s (nothing_shown s) (turns s)
+    ap (λ t. settled (queued deltas s) t (dependency_order (queued deltas s))) (same_nothing s (queued_own (delta_in deltas)))
+    ∙ ap (settled (queued deltas s) (nothing_shown s)) (kept_order s (queued deltas s) (queued_keeps deltas s))
+    ∙ same_settled deltas s (nothing_shown s) (dependency_order s)
 
 pub queued_shows : (deltas : Deltas) (s : State) (list : ℕ)
     → shown (queued deltas s) list ≡ shown s list
@@ -58,8 +58,8 @@ queued_shows deltas s list = ap (λ t. shows_in t list) (queued_table deltas s)
 pub queued_within : (limit : ℕ) (deltas : Deltas) (s : State)
     → too_long limit (queued deltas s) ≡ too_long limit s
 queued_within limit deltas s =
-    ap (λ t. first_longer limit t (turns (queued deltas s))) (queued_table deltas s)
-    ∙ ap (first_longer limit (table_of s)) (kept_turns s (queued deltas s) (queued_keeps deltas s))
+    ap (λ t. first_longer limit t (dependency_order (queued deltas s))) (queued_table deltas s)
+    ∙ ap (first_longer limit (table_of s)) (kept_order s (queued deltas s) (queued_keeps deltas s))
 
 -- ---- one delta more in a queue
 
@@ -117,16 +117,16 @@ kept_said said c shows (composite needed members) h = tt
 kept_said said c shows (transaction input levels) h = tt
 kept_said said c shows (freezable input since) h = tt
 
-behind_said : (said : Said) (list : ℕ) (own : Own) (delta : ℕ → Delta) → OfProxy said own
-    → OfProxy said (kept_behind list own delta)
-behind_said said list (proxy input kept queue) delta h = h
-behind_said said list (source contents) delta h = tt
-behind_said said list (over input view) delta h = tt
-behind_said said list (composite needed members) delta h = tt
-behind_said said list (transaction input []) delta h = tt
-behind_said said list (transaction input (level ∷ levels)) delta h = tt
-behind_said said list (freezable input None) delta h = tt
-behind_said said list (freezable input (Some since)) delta h = tt
+later_said : (said : Said) (list : ℕ) (own : Own) (delta : ℕ → Delta) → OfProxy said own
+    → OfProxy said (kept_later list own delta)
+later_said said list (proxy input kept queue) delta h = h
+later_said said list (source contents) delta h = tt
+later_said said list (over input view) delta h = tt
+later_said said list (composite needed members) delta h = tt
+later_said said list (transaction input []) delta h = tt
+later_said said list (transaction input (level ∷ levels)) delta h = tt
+later_said said list (freezable input None) delta h = tt
+later_said said list (freezable input (Some since)) delta h = tt
 
 pumped_said : (said : Said) (own : Own) → StaysPumped said → OfProxy said own
     → OfProxy said (pumped own)
@@ -145,9 +145,9 @@ command_said said s c list within h =
     subst (OfProxy said) (sym (own_at_wave s (command c) list within)) (by_subject (eqb list (origin c)))
   where
     by_subject : (b : Bool) → OfProxy said (cond b (kept_after c (shown s) (own_at s list))
-        (kept_behind list (own_at s list) (delta_in (wave_deltas s (command c)))))
+        (kept_later list (own_at s list) (delta_in (wave_deltas s (command c)))))
     by_subject true = kept_said said c (shown s) (own_at s list) h
-    by_subject false = behind_said said list (own_at s list) (delta_in (wave_deltas s (command c))) h
+    by_subject false = later_said said list (own_at s list) (delta_in (wave_deltas s (command c))) h
 
 -- a pump leaves them but for its own
 pub pump_said : (said : Said) (s : State) (number : ℕ) → StaysPumped said
@@ -156,9 +156,9 @@ pump_said said s number stays list within h =
     subst (OfProxy said) (sym (own_at_wave s (pump number) list within)) (by_subject (eqb list number))
   where
     by_subject : (b : Bool) → OfProxy said (cond b (pumped (own_at s list))
-        (kept_behind list (own_at s list) (delta_in (wave_deltas s (pump number)))))
+        (kept_later list (own_at s list) (delta_in (wave_deltas s (pump number)))))
     by_subject true = pumped_said said (own_at s list) stays h
-    by_subject false = behind_said said list (own_at s list) (delta_in (wave_deltas s (pump number))) h
+    by_subject false = later_said said list (own_at s list) (delta_in (wave_deltas s (pump number))) h
 
 -- a step and a section leave proxies as they are
 pub step_said : (said : Said) (limit : ℕ) (s : State) (c : Command)

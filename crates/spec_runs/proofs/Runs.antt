@@ -48,7 +48,7 @@ length-replies p order = replies_from p (start p) order ∙ omega arith
 abbrev pub outcome_after : Plan → List Actor → Actor → Outcome
 outcome_after p order a = outcome p.limit (run p order).state (next_deed p order a)
 
--- one entry more: its state, and its replies behind the others
+-- one entry more: its state, and its replies after the others
 pub state_more : (p : Plan) (order : List Actor) (a : Actor)
     → (run p (order ++ a ∷ [])).state
     ≡ queued (outcome_after p order a).deltas (outcome_after p order a).state
@@ -59,7 +59,7 @@ pub replies_more : (p : Plan) (order : List Actor) (a : Actor)
     ≡ (run p order).replies ++ (outcome_after p order a).replies ∷ []
 replies_more p order a = rw (run_more p order a, order_of_run p order) refl
 
--- and its tellings behind all others
+-- and its tellings after all others
 pub told_more : (p : Plan) (order : List Actor) (a : Actor)
     → (run p (order ++ a ∷ [])).told
     ≡ (run p order).told ++ tellings p (length order) (outcome_after p order a).deltas

@@ -4,7 +4,7 @@ use Rattle.spec_value.specs.Tree.{Tree}
 use Rattle.spec_lists.specs.Piece.{Piece, identity, IsNormal, old_len, new_len}
 use Rattle.spec_lists.specs.Leads.{IsDelta}
 use Rattle.spec_lists.specs.Delta.{composed}
-use Rattle.spec_lists.proofs.Leading.{composition_leads, length_from, length-applied}
+use Rattle.spec_lists.proofs.DeltaLeads.{composition_leads, length_from, length-applied}
 use Rattle.spec_lists.proofs.Merge.{Merge, merge_of, composed_merge}
 use Rattle.spec_lists.proofs.Normal.{IsNormal-normal}
 use Rattle.spec_lists.proofs.Composition.{composition_is_associative, identity_is_neutral}
@@ -15,7 +15,7 @@ use Rattle.spec_states.specs.Wave.{Deltas, delta_in, unchanged}
 use Rattle.spec_states.specs.Step.{step}
 use Rattle.spec_states.specs.Laws.{IsSound, Lead}
 use Rattle.spec_runs.specs.Section.{state_after, composed_all, deltas_after, section_deltas}
-use Rattle.spec_runs.proofs.Keeping.{AllSuit, all_suit_kept, step_keeps}
+use Rattle.spec_runs.proofs.KeptKinds.{AllSuit, all_suit_kept, step_keeps}
 use Rattle.spec_states.proofs.Views.{length-table_of}
 use Rattle.spec_states.proofs.Waves.{unchanged_at, unchanged_leads, step_leads, step_sound}
 
@@ -62,7 +62,7 @@ composed_normal p q fits =
     let r : (m : List Piece) × Merge p q m = merge_of (length p + length q) p q (omega arith) fits in
     subst IsNormal (sym (composed_merge r.1)) (IsNormal-normal r.0)
 
--- a delta, and then nothing, or behind nothing
+-- a delta, and then nothing, or after nothing
 pub composed_nothing : (d : List Piece) (xs ys : List Tree) → IsNormal d → IsDelta d xs ys
     → composed d (identity (length ys)) ≡ d
 composed_nothing d xs ys normal h =
@@ -112,7 +112,7 @@ leads_on ps qs a b c h g = record {
       (g.each k there.middle)));
 }
 
--- deltas, and then nothing, or behind nothing
+-- deltas, and then nothing, or after nothing
 pub then_unchanged : (ps : Deltas) (a b : Table) → Lead ps a b → composed_all ps (unchanged b) ≡ ps
 then_unchanged ps a b h =
     let still : Lead (unchanged b) b b = unchanged_leads b in

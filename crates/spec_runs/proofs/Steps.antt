@@ -11,7 +11,7 @@ use Rattle.spec_states.specs.Wave.{Deltas, delta_in, unchanged}
 use Rattle.spec_states.specs.Step.{step, unmoved}
 use Rattle.spec_states.specs.Laws.{IsSound}
 use Rattle.spec_runs.specs.Section.{state_after, replies_to, composed_all, deltas_after, section_deltas}
-use Rattle.spec_runs.proofs.Keeping.{Suits, AllSuit, suits_kept, after_keeps}
+use Rattle.spec_runs.proofs.KeptKinds.{Suits, AllSuit, suits_kept, after_keeps}
 use Rattle.spec_runs.proofs.Sections.{after_sound, section_leads, composed_in, then_unchanged}
 use Rattle.spec_states.proofs.Views.{length-table_of}
 use Rattle.spec_states.proofs.Waves.{step_leads}

@@ -9,17 +9,17 @@ use Rattle.spec_value.specs.Tree.{Tree}
 use Rattle.spec_lists.specs.Delta.{Delta, is_identity}
 use Rattle.spec_lists.specs.Leads.{IsDelta}
 use Rattle.spec_lists.specs.Changes.{changes, replay}
-use Rattle.spec_lists.proofs.Replaying.{replay_gives_new_list}
+use Rattle.spec_lists.proofs.Replay.{replay_gives_new_list}
 use Rattle.gl_outside.specs.declared.gate.Actor.{Actor}
 use Rattle.gl_lines.specs.declared.plan.ListenerDecl.{ListenerDecl}
-use Rattle.spec_order.specs.Order.{IsOrder}
-use Rattle.spec_order.proofs.Acyclic.{Contains-order}
-use Rattle.spec_order.proofs.Fronts.{front_once}
-use Rattle.spec_order.proofs.Members.{Contains-nil, Contains-cons_cases, Contains-here, Contains-later, times, hit_same, times_some}
+use Rattle.spec_plans.specs.Order.{IsOrder}
+use Rattle.spec_plans.proofs.Acyclic.{Contains-order}
+use Rattle.spec_plans.proofs.Prefixes.{prefix_once}
+use Rattle.spec_plans.proofs.Members.{Contains-nil, Contains-cons_cases, Contains-here, Contains-later, times, hit_same, times_some}
 use Rattle.spec_plans.specs.Plan.{Plan, listener_edges}
 use Rattle.spec_states.specs.Wave.{Deltas, delta_in}
 use Rattle.spec_runs.specs.Entry.{outcome, next_deed}
-use Rattle.spec_runs.specs.Telling.{Telling, attempts, telling_of, told_one, listener_turns, tellings}
+use Rattle.spec_runs.specs.Telling.{Telling, attempts, telling_of, told_one, listener_dependency_order, tellings}
 use Rattle.spec_runs.specs.Run.{Run, entry}
 use Rattle.spec_runs.specs.Laws.{told_to, told_at, replay_all, heard}
 use Rattle.spec_runs.proofs.Identities.{identity_stays}
@@ -88,9 +88,9 @@ telling_place place k echo d = elim (is_identity d) as (λ b. AllAt place (cond 
   | false ↦ (refl, tt)
 ]
 
-one_place : (listeners : List ListenerDecl) (place : ℕ) (ds : Deltas) (k : ℕ)
+one_position : (listeners : List ListenerDecl) (place : ℕ) (ds : Deltas) (k : ℕ)
     → AllAt place (told_one listeners place ds k)
-one_place listeners place ds k = by_decl (slice_get listeners k) refl
+one_position listeners place ds k = by_decl (slice_get listeners k) refl
   where
     by_decl : (o : Option ListenerDecl) → slice_get listeners k ≡ o
         → AllAt place (told_one listeners place ds k)
@@ -101,7 +101,7 @@ pub all_place : (listeners : List ListenerDecl) (place : ℕ) (ds : Deltas) (ks 
     → AllAt place (flat_map (told_one listeners place ds) ks)
 all_place listeners place ds [] = tt
 all_place listeners place ds (k ∷ ks) =
-    both_all _ (told_one listeners place ds k) _ (one_place listeners place ds k) (all_place listeners place ds ks)
+    both_all _ (told_one listeners place ds k) _ (one_position listeners place ds k) (all_place listeners place ds ks)
 
 -- all tellings of a run are of an entry that was made
 abbrev pub Placed : Run → Type 0
@@ -180,18 +180,18 @@ told_in_turn listeners place ds (j ∷ js) k d e there once = elim (cases_eq j k
   | inr other ↦
       told_to_append k (told_one listeners place ds j) _
       ∙ ap (λ us. us ++ told_to k (flat_map (told_one listeners place ds) js)) (one_other listeners place ds j k other)
-      ∙ told_in_turn listeners place ds js k d e (behind other) (omega (arith, once))
+      ∙ told_in_turn listeners place ds js k d e (after other) (omega (arith, once))
 ]
   where
-    behind : j ≢ k → Contains js k
-    behind other = elim (Contains-cons_cases j js k there) [
+    after : j ≢ k → Contains js k
+    after other = elim (Contains-cons_cases j js k there) [
       | inl same ↦ absurd (other same)
       | inr later ↦ later
     ]
 
 -- the order of a plan's listeners is whole, and each hears a list of the plan
 pub record AreHeard (p : Plan) : Type 0 where
-  pub turns : IsOrder (length p.listeners) (listener_edges p) (listener_turns p)
+  pub dependency_order : IsOrder (length p.listeners) (listener_edges p) (listener_dependency_order p)
   pub lists : (k : ℕ) (d : ListenerDecl) → slice_get p.listeners k ≡ Some d → d.list < length p.lists
 
 pub told_in_entry : (p : Plan) (place : ℕ) (ds : Deltas) (k : ℕ) (d : ListenerDecl) → AreHeard p
@@ -199,9 +199,9 @@ pub told_in_entry : (p : Plan) (place : ℕ) (ds : Deltas) (k : ℕ) (d : Listen
     → told_to k (tellings p place ds) ≡ heard (delta_in ds d.list)
 told_in_entry p place ds k d are e =
     let n : ℕ = length p.listeners in
-    told_in_turn p.listeners place ds (listener_turns p) k d e
-    (Contains-order n (listener_edges p) (listener_turns p) are.turns k (slice_get_within p.listeners k d e))
-    (front_once n (listener_edges p) (listener_turns p) are.turns.front k)
+    told_in_turn p.listeners place ds (listener_dependency_order p) k d e
+    (Contains-order n (listener_edges p) (listener_dependency_order p) are.dependency_order k (slice_get_within p.listeners k d e))
+    (prefix_once n (listener_edges p) (listener_dependency_order p) are.dependency_order.prefix k)
 
 -- ---- what the deltas make of the list
 

@@ -8,20 +8,21 @@ use Rattle.std.proofs.lemmas.List.{append_assoc, append-nil, length-append}
 use Rattle.spec_lists.specs.Delta.{Delta, is_identity}
 use Rattle.gl_outside.specs.declared.gate.Actor.{Actor}
 use Rattle.gl_lines.specs.declared.plan.ListenerDecl.{ListenerDecl}
-use Rattle.spec_order.specs.Edges.{DependsOn}
-use Rattle.spec_order.specs.Order.{IsNext, IsFront, IsOrder}
-use Rattle.spec_order.proofs.Fronts.{front_once}
-use Rattle.spec_order.proofs.Members.{Contains-here, Contains-later, times-append, times_some}
+use Rattle.spec_plans.specs.Edges.{DependsOn}
+use Rattle.spec_plans.specs.Order.{IsNext, IsPrefix, IsOrder}
+use Rattle.spec_plans.proofs.Prefixes.{prefix_once}
+use Rattle.spec_plans.proofs.Members.{Contains-here, Contains-later, times-append, times_some}
 use Rattle.spec_plans.specs.Plan.{Plan, listener_edges}
 use Rattle.spec_plans.specs.Cycles.{IsAcyclic}
-use Rattle.spec_canonical.specs.WellFormed.{IsWellFormed}
+use Rattle.spec_plans.specs.WellFormed.{IsWellFormed}
 use Rattle.spec_states.specs.Wave.{Deltas, delta_in}
 use Rattle.spec_runs.specs.Entry.{outcome, next_deed}
-use Rattle.spec_runs.specs.Telling.{Telling, attempts, telling_of, told_one, listener_turns, tellings}
+use Rattle.spec_runs.specs.Telling.{Telling, attempts, telling_of, told_one, listener_dependency_order, tellings}
 use Rattle.spec_runs.specs.Run.{Run, start, entry}
 use Rattle.spec_runs.specs.Laws.{told_at, EachToldAfterNeeded}
 use Rattle.spec_runs.proofs.Ordered.{well_formed_listeners}
 use Rattle.spec_runs.proofs.Told.{Placed, AllAt, placed_entry, told_at_append, told_at_others, told_at_all, all_place}
+use Rattle.spec_views.proofs.Lists.{index_at_seam}
 
 -- ---- along an order
 
@@ -47,41 +48,37 @@ told_among f (k ∷ ks) j t one e = by_told (λ i g. told_among f ks i t one g) 
     by_told others (first ∷ []) (suc j) is e = Contains-later k ks t.listener (others j e)
     by_told others (first ∷ u ∷ ts) j bad e = absurd bad
 
-index_at_seam : (ys zs : List ℕ) (k : ℕ) → slice_index (ys ++ k ∷ zs) (length ys) ≡ k
-index_at_seam [] zs k = refl
-index_at_seam (y ∷ ys) zs k = index_at_seam ys zs k
-
--- what stands in an order behind others comes next after them
+-- what stands in an order after others comes next after them
 pub next_at : (n : ℕ) (edges : List (ℕ × ℕ)) (placed ks : List ℕ) (k : ℕ)
-    → IsFront n edges (placed ++ k ∷ ks) → IsNext n edges placed k
-next_at n edges placed ks k front =
+    → IsPrefix n edges (placed ++ k ∷ ks) → IsNext n edges placed k
+next_at n edges placed ks k prefix =
     let xs : List ℕ = placed ++ k ∷ ks in
     let there : length placed < length xs = omega (arith, length-append placed (k ∷ ks)) in
     let before : take (length placed) xs ≡ placed = take-append_seam placed (k ∷ ks) in
     subst (λ j. IsNext n edges placed j) (index_at_seam placed ks k)
-    (subst (λ ys. IsNext n edges ys (slice_index xs (length placed))) before (front (length placed) there))
+    (subst (λ ys. IsNext n edges ys (slice_index xs (length placed))) before (prefix (length placed) there))
 
 -- what was placed isn't among what is left
-apart : (n : ℕ) (edges : List (ℕ × ℕ)) (placed ks : List ℕ) (i : ℕ) → IsFront n edges (placed ++ ks)
+apart : (n : ℕ) (edges : List (ℕ × ℕ)) (placed ks : List ℕ) (i : ℕ) → IsPrefix n edges (placed ++ ks)
     → Contains placed i → ¬ Contains ks i
-apart n edges placed ks i front c d =
+apart n edges placed ks i prefix c d =
     absurd (omega (
       arith,
-      front_once n edges (placed ++ ks) front i,
+      prefix_once n edges (placed ++ ks) prefix i,
       times-append i placed ks,
       times_some i placed c,
       times_some i ks d,
     ))
 
--- Of the tellings along an order, one to a listener comes behind one to a listener that it depends on.
+-- Of the tellings along an order, one to a listener comes after one to a listener that it depends on.
 along : (n : ℕ) (edges : List (ℕ × ℕ)) (f : ℕ → List Telling) → ((k : ℕ) → AtMostOne k (f k))
-    → (placed ks : List ℕ) → IsFront n edges (placed ++ ks) → (i j : ℕ) (later earlier : Telling)
+    → (placed ks : List ℕ) → IsPrefix n edges (placed ++ ks) → (i j : ℕ) (later earlier : Telling)
     → slice_get (flat_map f ks) i ≡ Some later → slice_get (flat_map f ks) j ≡ Some earlier
     → DependsOn edges later.listener earlier.listener → j < i
-along n edges f one placed [] front i j later earlier at_i at_j needs = absurd cc
-along n edges f one placed (k ∷ ks) front i j later earlier at_i at_j needs =
-    let then : IsFront n edges ((placed ++ k ∷ []) ++ ks) =
-    subst (IsFront n edges) (sym (append_assoc placed (k ∷ []) ks)) front in
+along n edges f one placed [] prefix i j later earlier at_i at_j needs = absurd cc
+along n edges f one placed (k ∷ ks) prefix i j later earlier at_i at_j needs =
+    let then : IsPrefix n edges ((placed ++ k ∷ []) ++ ks) =
+    subst (IsPrefix n edges) (sym (append_assoc placed (k ∷ []) ks)) prefix in
     by_told (λ u v at_u at_v. along n edges f one (placed ++ k ∷ []) ks then u v later earlier at_u at_v needs)
     (f k) refl i j (one k) at_i at_j
   where
@@ -94,8 +91,8 @@ along n edges f one placed (k ∷ ks) front i j later earlier at_i at_j needs =
     first_needs is left =
         let needed : DependsOn edges k earlier.listener =
         subst (λ l. DependsOn edges l earlier.listener) is needs in
-        let ready = (next_at n edges placed ks k front).ready in
-        apart n edges placed (k ∷ ks) earlier.listener front (ready.free earlier.listener needed) left
+        let ready = (next_at n edges placed ks k prefix).ready in
+        apart n edges placed (k ∷ ks) earlier.listener prefix (ready.free earlier.listener needed) left
 
     by_told : Others → (ts : List Telling) → f k ≡ ts → (i j : ℕ) → AtMostOne k ts
         → slice_get (ts ++ flat_map f ks) i ≡ Some later
@@ -129,17 +126,17 @@ told_at_most_one listeners place ds k = by_decl (slice_get listeners k) refl
     by_decl None e = rw e tt
     by_decl (Some d) e = rw e (one_telling place k d.echo (delta_in ds d.list))
 
--- of these tellings one to a listener comes behind one to a listener that it depends on
+-- of these tellings one to a listener comes after one to a listener that it depends on
 abbrev pub AreInTurn : Plan → List Telling → Type 0
 AreInTurn p ts = (i j : ℕ) (later earlier : Telling) → slice_get ts i ≡ Some later → slice_get ts j ≡ Some earlier
     → DependsOn (listener_edges p) later.listener earlier.listener → j < i
 
 tellings_in_turn : (p : Plan) (place : ℕ) (ds : Deltas)
-    → IsOrder (length p.listeners) (listener_edges p) (listener_turns p)
+    → IsOrder (length p.listeners) (listener_edges p) (listener_dependency_order p)
     → AreInTurn p (tellings p place ds)
 tellings_in_turn p place ds order i j later earlier at_i at_j needs =
     along (length p.listeners) (listener_edges p) (told_one p.listeners place ds)
-    (told_at_most_one p.listeners place ds) [] (listener_turns p) order.front i j later earlier at_i at_j needs
+    (told_at_most_one p.listeners place ds) [] (listener_dependency_order p) order.prefix i j later earlier at_i at_j needs
 
 -- ---- in a run
 
@@ -152,15 +149,15 @@ told_elsewhere place n (t ∷ ts) h ne =
 -- so far each entry's tellings are in turn
 record InTurn (p : Plan) (r : Run) : Type 0 where
   placed : Placed r
-  turns : (place : ℕ) → AreInTurn p (told_at place r.told)
+  dependency_order : (place : ℕ) → AreInTurn p (told_at place r.told)
 
 turn_entry : (p : Plan) (r : Run) (a : Actor)
-    → IsOrder (length p.listeners) (listener_edges p) (listener_turns p) → InTurn p r
+    → IsOrder (length p.listeners) (listener_edges p) (listener_dependency_order p) → InTurn p r
     → InTurn p (entry p r a)
 turn_entry p r a order h = record {
   placed = placed_entry p r a h.placed;
-  turns = λ place.
-      subst (AreInTurn p) (sym (told_at_append place r.told here)) (by_place place (cases_eq n place));
+  dependency_order = λ place.
+      subst (AreInTurn p) (sym (told_at_append place r.told here)) (by_position place (cases_eq n place));
 }
   where
     n : ℕ
@@ -173,29 +170,29 @@ turn_entry p r a order h = record {
     here = tellings p n ds
 
     all_here : AllAt n here
-    all_here = all_place p.listeners n ds (listener_turns p)
+    all_here = all_place p.listeners n ds (listener_dependency_order p)
 
-    by_place : (place : ℕ) → (n ≡ place) ⊎ (n ≢ place)
+    by_position : (place : ℕ) → (n ≡ place) ⊎ (n ≢ place)
         → AreInTurn p (told_at place r.told ++ told_at place here)
-    by_place place (inl same) =
+    by_position place (inl same) =
         let P : ℕ → Type 0 = λ k. AreInTurn p (told_at k r.told ++ told_at k here) in
         let is : told_at n r.told ++ told_at n here ≡ here =
         ap (λ ts. ts ++ told_at n here) (told_at_others n r.told h.placed) ∙ told_at_all n here all_here in
         subst P same (subst (AreInTurn p) (sym is) (tellings_in_turn p n ds order))
-    by_place place (inr other) =
+    by_position place (inr other) =
         let is : told_at place r.told ++ told_at place here ≡ told_at place r.told =
         ap (λ ts. told_at place r.told ++ ts) (told_elsewhere place n here all_here other)
         ∙ append-nil (told_at place r.told) in
-        subst (AreInTurn p) (sym is) (h.turns place)
+        subst (AreInTurn p) (sym is) (h.dependency_order place)
 
-turns_from : (p : Plan) (r : Run) (order : List Actor)
-    → IsOrder (length p.listeners) (listener_edges p) (listener_turns p) → InTurn p r
+dependency_order_from : (p : Plan) (r : Run) (order : List Actor)
+    → IsOrder (length p.listeners) (listener_edges p) (listener_dependency_order p) → InTurn p r
     → InTurn p (fold (entry p) r order)
-turns_from p r [] whole h = h
-turns_from p r (a ∷ order) whole h = turns_from p (entry p r a) order whole (turn_entry p r a whole h)
+dependency_order_from p r [] whole h = h
+dependency_order_from p r (a ∷ order) whole h = dependency_order_from p (entry p r a) order whole (turn_entry p r a whole h)
 
 -- each listener of a well-formed plan without cycles is told after those that it needs to be
 pub told_after_needed : (p : Plan) → IsWellFormed p → IsAcyclic p → EachToldAfterNeeded p
 told_after_needed p h free order place i j later earlier at_i at_j needs =
-    let opens : InTurn p (start p) = record { placed = tt; turns = λ place i j later earlier at_i at_j needs. absurd cc } in
-    (turns_from p (start p) order (well_formed_listeners p h free) opens).turns place i j later earlier at_i at_j needs
+    let opens : InTurn p (start p) = record { placed = tt; dependency_order = λ place i j later earlier at_i at_j needs. absurd cc } in
+    (dependency_order_from p (start p) order (well_formed_listeners p h free) opens).dependency_order place i j later earlier at_i at_j needs

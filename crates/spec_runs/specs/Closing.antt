@@ -4,7 +4,7 @@ use Rattle.std.specs.Prelude.{◌≡◌, ◌==◌, ◌++◌, ℕ, zero, suc, Lis
 use Rattle.std.specs.List.{range_with_len}
 use Rattle.gl_outside.specs.declared.gate.Actor.{Actor}
 use Rattle.gl_outside.specs.declared.gate.Actor.TheVariants.{Writer, Proxy}
-use Rattle.spec_order.specs.Turns.{turns}
+use Rattle.spec_plans.specs.DependencyOrder.{dependency_order}
 use Rattle.spec_plans.specs.Plan.{Plan, list_edges, proxies_of}
 use Rattle.spec_states.specs.State.{own_at}
 use Rattle.spec_runs.specs.Run.{run, left_to}
@@ -12,7 +12,8 @@ use Rattle.spec_runs.specs.Fits.{Fits, IsWhole, queue_of}
 
 -- the sections that an order leaves, writer by writer
 abbrev pub sections_left : Plan → List Actor → List Actor
-sections_left p order = flat_map (λ w. replicate (left_to p w order) (Writer w)) (range_with_len 0 (length p.writers))
+sections_left p order =
+    flat_map (λ w. replicate (left_to p w order) (Writer w)) (range_with_len 0 (length p.writers))
 
 -- where a number stands in a list, as the one entry of a list; none where it doesn't
 abbrev pub places_of : ℕ → ℕ → List ℕ → List ℕ
@@ -25,14 +26,17 @@ actors_of p list = places_of 0 list (proxies_of p)
 
 -- a proxy's pumps until it has nothing left to take, after an order
 abbrev pub pumped_empty : Plan → ℕ → List Actor → ℕ → List Actor
-pumped_empty p list order n = order ++ replicate (length (queue_of (own_at (run p order).state list))) (Proxy n)
+pumped_empty p list order n =
+    order ++ replicate (length (queue_of (own_at (run p order).state list))) (Proxy n)
 
 abbrev pub pumped_list : Plan → List Actor → ℕ → List Actor
 pumped_list p order list = fold (pumped_empty p list) order (actors_of p list)
 
 -- the order with all that is left
 abbrev pub close : Plan → List Actor → List Actor
-close p order = fold (pumped_list p) (order ++ sections_left p order) (turns (length p.lists) (list_edges p))
+close p order =
+    fold (pumped_list p) (order ++ sections_left p order)
+    (dependency_order (length p.lists) (list_edges p))
 
 -- where an order fits, what it is brought to is whole
 abbrev pub ClosingIsWhole : Plan → Type 0

@@ -66,14 +66,17 @@ match_cost kind_is.Changed shown_len all_len = all_len
 
 -- what another parameter may take over these elements; another order counts each of them as inserted
 abbrev pub change_cost : Option Parameter → View → List Tree → ℕ
-change_cost (Some (view.matcher m)) (filter old) xs = match_cost (kind old m) (length (filter_view (accepts old) xs)) (length xs)
+change_cost (Some (view.matcher m)) (filter old) xs =
+    match_cost (kind old m) (length (filter_view (accepts old) xs)) (length xs)
 change_cost (Some (view.order keys)) (sorted old) xs = search_cost (length xs) (length xs)
 change_cost (Some (view.order keys)) (unique old) xs = search_cost (length xs) (length xs)
 change_cost (Some (view.order keys)) (grouping old) xs = search_cost (length xs) (length xs)
 change_cost given other xs = 0
 
 abbrev pub own_follow_cost : Own → (ℕ → List Tree) → (ℕ → Delta) → ℕ
-own_follow_cost (over input v) shows delta = follow_cost v (delta input) (length (shows input)) (length (applied (delta input) (shows input)))
+own_follow_cost (over input v) shows delta =
+    follow_cost v (delta input) (length (shows input))
+    (length (applied (delta input) (shows input)))
 own_follow_cost other shows delta = 0
 
 abbrev pub own_change_cost : Cause → Own → (ℕ → List Tree) → ℕ
@@ -83,7 +86,8 @@ own_change_cost cause other shows = 0
 -- what a list may take in a wave
 abbrev pub list_cost : Cause → State → ℕ → ℕ
 list_cost cause s list =
-    if is_at (begins cause (own_at s (subject cause))) list then own_change_cost cause (own_at s list) (shown s)
+    if is_at (begins cause (own_at s (subject cause))) list
+    then own_change_cost cause (own_at s list) (shown s)
     else own_follow_cost (own_at s list) (shown s) (delta_in (wave_deltas s cause))
 
 -- what a wave may take, whether or not a list grows too long in it

@@ -26,7 +26,8 @@ is_writer writer (Proxy p) = false
 -- how many sections of a writer an order takes
 abbrev pub taken_by : ℕ → List Actor → ℕ
 taken_by writer [] = 0
-taken_by writer (a ∷ order) = if is_writer writer a then suc (taken_by writer order) else taken_by writer order
+taken_by writer (a ∷ order) =
+    if is_writer writer a then suc (taken_by writer order) else taken_by writer order
 
 abbrev pub pumping_of : Option ℕ → Deed
 pumping_of None = nothing
@@ -49,7 +50,8 @@ outcome limit s (section commands) = record {
   replies = replies_to limit s commands;
   deltas = section_deltas limit s commands;
 }
-outcome limit s (pumping list) = record { state = wave s (pump list); replies = []; deltas = wave_deltas s (pump list) }
+outcome limit s (pumping list) =
+    record { state = wave s (pump list); replies = []; deltas = wave_deltas s (pump list) }
 outcome limit s nothing = record { state = s; replies = []; deltas = unchanged (table_of s) }
 
 -- a delta at the end of a queue, unless it is the identity

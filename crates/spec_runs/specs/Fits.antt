@@ -46,7 +46,8 @@ pub record BadPlace : Type 0 where
 -- the first bad place of what is left of an order, after the part that was judged
 abbrev pub bad_place_from : Plan → List Actor → List Actor → Option BadPlace
 bad_place_from p before [] = None
-bad_place_from p before (a ∷ rest) = first_of_two (reason_at p before a) (bad_place_from p (before ++ a ∷ []) rest)
+bad_place_from p before (a ∷ rest) =
+    first_of_two (reason_at p before a) (bad_place_from p (before ++ a ∷ []) rest)
   where
     first_of_two : Option Reason → Option BadPlace → Option BadPlace
     first_of_two (Some reason) later = Some (record { place = length before; reason = reason })

@@ -8,7 +8,7 @@ use Rattle.spec_lang.specs.declared.Bounds.TheVariants.{Head}
 use Rattle.spec_plans.specs.declared.class.ListClass.{ListClass}
 use Rattle.spec_plans.specs.declared.class.ListClass.TheVariants as class
 use Rattle.spec_plans.specs.Plan.{origin as about}
-use Rattle.spec_canonical.specs.WellFormed.{needed_class}
+use Rattle.spec_plans.specs.WellFormed.{needed_class}
 use Rattle.spec_views.specs.View.{View, filter, sorted, unique, grouping, range, function, collection}
 use Rattle.spec_states.specs.State.{Own, State, source, over, composite, transaction, freezable, proxy, own_at}
 use Rattle.spec_states.specs.Laws.{MayAttach}

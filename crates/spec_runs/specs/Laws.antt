@@ -4,7 +4,7 @@ use Rattle.spec_value.specs.Tree.{Tree}
 use Rattle.spec_lists.specs.Delta.{Delta, is_identity}
 use Rattle.spec_lists.specs.Leads.{IsDelta, applied}
 use Rattle.spec_lists.specs.Changes.{changes, replay}
-use Rattle.spec_order.specs.Edges.{DependsOn}
+use Rattle.spec_plans.specs.Edges.{DependsOn}
 use Rattle.gl_outside.specs.declared.gate.Actor.{Actor}
 use Rattle.gl_lines.specs.declared.plan.ListKind.TheVariants as kinds
 use Rattle.gl_lines.specs.declared.plan.ListDecl.{ListDecl}
@@ -19,7 +19,8 @@ use Rattle.spec_runs.specs.Prefix.{entry_delta, prefix}
 -- what was told to a listener, of these tellings: the deltas in the order told
 abbrev pub told_to : ℕ → List Telling → List Delta
 told_to listener [] = []
-told_to listener (t ∷ ts) = if t.listener == listener then t.delta ∷ told_to listener ts else told_to listener ts
+told_to listener (t ∷ ts) =
+    if t.listener == listener then t.delta ∷ told_to listener ts else told_to listener ts
 
 -- the tellings of the entry at a place, of these tellings
 abbrev pub told_at : ℕ → List Telling → List Telling
@@ -39,7 +40,8 @@ heard delta = if is_identity delta then [] else delta ∷ []
 -- to what it shows after; it is told once where it isn't the identity, and else nothing is told, and the list is as it
 -- was.
 pub record HearsEntry (p : Plan) (order : List Actor) (a : Actor) (listener list : ℕ) : Type 0 where
-  pub leads : IsDelta (entry_delta p order a list) (shown_after p order list) (shown_after p (order ++ a ∷ []) list)
+  pub leads : IsDelta (entry_delta p order a list) (shown_after p order list)
+      (shown_after p (order ++ a ∷ []) list)
   pub once : told_to listener (told_at (length order) (run p (order ++ a ∷ [])).told)
       ≡ heard (entry_delta p order a list)
   pub else_same : told_to listener (told_at (length order) (run p (order ++ a ∷ [])).told) ≡ []
@@ -50,11 +52,14 @@ pub record HearsEntry (p : Plan) (order : List Actor) (a : Actor) (listener list
 pub record Hears (p : Plan) (listener list : ℕ) : Type 0 where
   pub entries : (order : List Actor) (a : Actor) → HearsEntry p order a listener list
   pub replays : (order : List Actor)
-      → replay_all (told_to listener (run p order).told) (shown_after p [] list) ≡ shown_after p order list
+      → replay_all (told_to listener (run p order).told) (shown_after p [] list)
+      ≡ shown_after p order list
 
 -- each listener of a plan hears of its list
 abbrev pub EachHears : Plan → Type 0
-EachHears p = (listener : ℕ) (d : ListenerDecl) → slice_get p.listeners listener ≡ Some d → Hears p listener d.list
+EachHears p =
+    (listener : ℕ) (d : ListenerDecl) → slice_get p.listeners listener ≡ Some d
+    → Hears p listener d.list
 
 -- of the tellings of an entry, one to a listener comes after one to a listener that it is told after
 abbrev pub EachToldAfterNeeded : Plan → Type 0
@@ -68,7 +73,7 @@ abbrev pub applied_all : List Delta → List Tree → List Tree
 applied_all [] xs = xs
 applied_all (d ∷ ds) xs = applied_all ds (applied d xs)
 
--- A proxy, the n-th, over an input: it shows what the input showed after the front of the order to which the proxy has come, and
+-- A proxy, the n-th, over an input: it shows what the input showed after the beginning of the order to which the proxy has come, and
 -- what it is yet to take leads from there to what the input shows now.
 pub record FollowsLater (p : Plan) (order : List Actor) (n list input : ℕ) : Type 0 where
   pub shows : shown_after p order list ≡ shown_after p (prefix p n input order) input

@@ -1,4 +1,4 @@
--- How far a proxy has come: the front of an order up to which its input's deltas are taken.
+-- How far a proxy has come: the beginning of an order up to which its input's deltas are taken.
 use Rattle.std.specs.Prelude.{◌==◌, ◌&&◌, ◌++◌, ◌-◌, not, ℕ, suc, List, [], ◌∷◌, length, Bool, true, false, if◌then◌else◌}
 use Rattle.spec_lists.specs.Delta.{Delta, is_identity}
 use Rattle.gl_outside.specs.declared.gate.Actor.{Actor}
@@ -20,7 +20,8 @@ pumps_of n (a ∷ order) = if is_proxy n a then suc (pumps_of n order) else pump
 
 -- the delta of a list in an actor's next entry after an order
 abbrev pub entry_delta : Plan → List Actor → Actor → ℕ → Delta
-entry_delta p order a list = delta_in (outcome p.limit (run p order).state (next_deed p order a)).deltas list
+entry_delta p order a list =
+    delta_in (outcome p.limit (run p order).state (next_deed p order a)).deltas list
 
 -- how many of so many changes of a list are left after an entry
 abbrev pub left_after : Delta → ℕ → ℕ
@@ -38,7 +39,7 @@ before_change p list taken k (a ∷ rest) =
     unless true later = []
     unless false later = later
 
--- the front of an order that a proxy, the n-th, has come to, whose input is this list: all that stands before the first entry
+-- the beginning of an order that a proxy, the n-th, has come to, whose input is this list: all that stands before the first entry
 -- that changed its input and that it hasn't pumped
 abbrev pub prefix : Plan → ℕ → ℕ → List Actor → List Actor
 prefix p n input order = before_change p input [] (pumps_of n order) order

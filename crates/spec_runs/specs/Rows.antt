@@ -13,7 +13,7 @@ use Rattle.gl_lines.specs.declared.plan.ListenerDecl.{ListenerDecl}
 use Rattle.gl_lines.specs.declared.reply.Reply.TheVariants.{Done, Shown, OutOfRange, TooLong}
 use Rattle.spec_plans.specs.Plan.{Plan}
 use Rattle.spec_states.specs.Shown.{table_of}
-use Rattle.spec_runs.specs.Telling.{Telling, listener_turns}
+use Rattle.spec_runs.specs.Telling.{Telling, listener_dependency_order}
 use Rattle.spec_runs.specs.Run.{run, left_to, replies_at, shown_after}
 use Rattle.spec_runs.specs.Fits.{first_bad_place, no_section, no_proxy, no_writer}
 use Rattle.spec_plans.specs.Built.{is_built}
@@ -24,11 +24,13 @@ short = record {
   limit = 2;
   lists = record { name = codes "s"; kind = kinds.Source (num (pos 1) ∷ []) } ∷ [];
   listeners = [];
-  writers = ((AddAll 0 (num (pos 2) ∷ num (pos 3) ∷ []) ∷ Add 0 (num (pos 2)) ∷ Show 0 ∷ []) ∷ []) ∷ [];
+  writers =
+      ((AddAll 0 (num (pos 2) ∷ num (pos 3) ∷ []) ∷ Add 0 (num (pos 2)) ∷ Show 0 ∷ []) ∷ []) ∷ [];
 }
 
 -- two elements more are too many, one goes
-short_replies : replies_at short (Writer 0 ∷ []) 0 ≡ TooLong 0 3 ∷ Done ∷ Shown (num (pos 1) ∷ num (pos 2) ∷ []) ∷ []
+short_replies : replies_at short (Writer 0 ∷ []) 0
+    ≡ TooLong 0 3 ∷ Done ∷ Shown (num (pos 1) ∷ num (pos 2) ∷ []) ∷ []
 short_replies = refl
 
 short_shown : shown_after short (Writer 0 ∷ []) 0 ≡ num (pos 1) ∷ num (pos 2) ∷ []
@@ -52,10 +54,12 @@ short_none_left = refl
 short_fits : first_bad_place short (Writer 0 ∷ []) ≡ None
 short_fits = refl
 
-short_again : first_bad_place short (Writer 0 ∷ Writer 0 ∷ []) ≡ Some (record { place = 1; reason = no_section })
+short_again : first_bad_place short (Writer 0 ∷ Writer 0 ∷ [])
+    ≡ Some (record { place = 1; reason = no_section })
 short_again = refl
 
-short_writer : first_bad_place short (Writer 0 ∷ Writer 1 ∷ []) ≡ Some (record { place = 1; reason = no_writer })
+short_writer : first_bad_place short (Writer 0 ∷ Writer 1 ∷ [])
+    ≡ Some (record { place = 1; reason = no_writer })
 short_writer = refl
 
 short_proxy : first_bad_place short (Proxy 0 ∷ []) ≡ Some (record { place = 0; reason = no_proxy })
@@ -76,7 +80,11 @@ watched sections = record {
   limit = 16777216;
   lists =
       record { name = codes "f"; kind = kinds.Filter 1 all }
-      ∷ record { name = codes "s"; kind = kinds.Source (pair 9 (codes "y") ∷ pair 2 (codes "x") ∷ []) }
+      ∷ record {
+        name = codes "s";
+        kind =
+            kinds.Source (pair 9 (codes "y") ∷ pair 2 (codes "x") ∷ []);
+      }
       ∷ [];
   listeners = listener (codes "a") 0 [] ∷ listener (codes "b") 1 [] ∷ [];
   writers = sections ∷ [];
@@ -116,12 +124,15 @@ shown_anew :
 shown_anew = refl
 
 -- an element that is put in and taken out in one section is told to nobody
-cancelled : (run (watched ((Insert 1 0 (num (pos 5)) ∷ Remove 1 0 ∷ []) ∷ [])) (Writer 0 ∷ [])).told ≡ []
+cancelled : (run (watched ((Insert 1 0 (num (pos 5)) ∷ Remove 1 0 ∷ []) ∷ [])) (Writer 0 ∷ [])).told
+    ≡ []
 cancelled = refl
 
 -- an index above the length is refused, one at the end is not
 boundaries :
-    replies_at (watched ((Insert 1 3 (num (pos 9)) ∷ Insert 1 2 (num (pos 9)) ∷ Remove 1 3 ∷ []) ∷ [])) (Writer 0 ∷ [])
+    replies_at
+    (watched ((Insert 1 3 (num (pos 9)) ∷ Insert 1 2 (num (pos 9)) ∷ Remove 1 3 ∷ []) ∷ []))
+    (Writer 0 ∷ [])
     0
     ≡ OutOfRange 3 2 ∷ Done ∷ OutOfRange 3 3 ∷ []
 boundaries = refl
@@ -131,12 +142,13 @@ abbrev pub told_after : Plan
 told_after = record {
   limit = 9;
   lists = record { name = codes "s"; kind = kinds.Source [] } ∷ [];
-  listeners = listener (codes "a") 0 (2 ∷ []) ∷ listener (codes "b") 0 [] ∷ listener (codes "c") 0 [] ∷ [];
+  listeners =
+      listener (codes "a") 0 (2 ∷ []) ∷ listener (codes "b") 0 [] ∷ listener (codes "c") 0 [] ∷ [];
   writers = ((Add 0 (num (pos 1)) ∷ []) ∷ []) ∷ [];
 }
 
-told_after_turns : listener_turns told_after ≡ 1 ∷ 2 ∷ 0 ∷ []
-told_after_turns = refl
+told_after_order : listener_dependency_order told_after ≡ 1 ∷ 2 ∷ 0 ∷ []
+told_after_order = refl
 
 told_after_told :
     as_told (run told_after (Writer 0 ∷ [])).told

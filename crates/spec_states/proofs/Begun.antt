@@ -7,8 +7,8 @@ use Rattle.spec_order.proofs.Members.{Contains-here}
 use Rattle.spec_value.specs.Tree.{Tree}
 use Rattle.spec_lists.specs.Delta.{Delta, no_change, composed, inverse}
 use Rattle.spec_lists.specs.Leads.{LeadsTo, undone}
-use Rattle.spec_lists.proofs.Editing.{identity_normal, identity_leads}
-use Rattle.spec_lists.proofs.Leading.{delta_to, undone_composed, composed_ends, composed_ends_normal, inverse_leads_back, inverse_normal, undone_no_change, no_change_ends}
+use Rattle.spec_lists.proofs.DeltaEdits.{identity_normal, identity_leads}
+use Rattle.spec_lists.proofs.DeltaLeads.{delta_to, undone_composed, composed_ends, composed_ends_normal, inverse_leads_back, inverse_normal, undone_no_change, no_change_ends}
 use Rattle.spec_views.specs.View.{View, view_of, Parameter}
 use Rattle.spec_views.specs.Composite.{composite_view}
 use Rattle.spec_views.proofs.Views.{change_of_leads, change_of_normal}
@@ -24,6 +24,7 @@ use Rattle.spec_states.specs.Laws.{LedTo, since_frozen, MayAttach, MayTake}
 use Rattle.spec_states.proofs.Views.{Inward, members_inward, shown_local}
 use Rattle.spec_states.proofs.Edits.{edit_leads, edit_normal}
 use Rattle.spec_states.proofs.Kept.{Goes, goes_as, stays, FitsOver, follow_goes}
+use Rattle.spec_basics.proofs.Options.{same_some}
 
 -- a command isn't refused by what the list keeps that it is about, and is for such a list; a pump always may be
 pub record MayTakeNow (given : Command) (own : Own) : Type 0 where
@@ -76,9 +77,6 @@ levels_before : (level : Delta) (levels : List Delta) (xs : List Tree) → LedTo
     → LedTo levels (undone level xs)
 levels_before level levels xs h = h.2
 
-of_some : (i j : ℕ) → Some i ≡ Some j → i ≡ j
-of_some i j e = cc
-
 transaction_begun : (given : Command) (input : ℕ) (levels : List Delta) (before after : ℕ → List Tree)
     → MayTakeNow given (transaction input levels) → LedTo levels (before input)
     → beginning given (about given) (transaction input levels) ≡ Some (about given)
@@ -100,7 +98,7 @@ transaction_begun (c.Begin list) input levels before after may fits here apart s
 transaction_begun (c.Commit list) input [] before after may fits here apart same = absurd (let e = may.granted in cc)
 transaction_begun (c.Commit list) input (level ∷ []) before after may fits here apart same = goes_as (last_level level [] (before input) fits) refl refl same
 transaction_begun (c.Commit list) input (level ∷ outer ∷ levels) before after may fits here apart same = absurd cc
-transaction_begun (c.Rollback list) input levels before after may fits here apart same = absurd (apart (Contains-here input [] list (of_some input list here)))
+transaction_begun (c.Rollback list) input levels before after may fits here apart same = absurd (apart (Contains-here input [] list (same_some input list here)))
 transaction_begun (c.Freeze list) input levels before after may fits here apart same = absurd may.suits
 transaction_begun (c.Thaw list) input levels before after may fits here apart same = absurd may.suits
 transaction_begun (c.Show list) input levels before after may fits here apart same = absurd cc

@@ -5,7 +5,7 @@ use Rattle.std.proofs.lemmas.Bool.{ltb-true, leb-true}
 use Rattle.spec_value.specs.Tree.{Tree}
 use Rattle.spec_lists.specs.Piece.{updated, deleted, inserted, IsNormal}
 use Rattle.spec_lists.specs.Leads.{IsDelta}
-use Rattle.spec_lists.proofs.Editing.{identity_normal, around_normal, identity_leads, insert_leads, set_leads, remove_leads, insert_last, append_leads, append_normal, clear_leads, clear_normal}
+use Rattle.spec_lists.proofs.DeltaEdits.{identity_normal, around_normal, identity_leads, insert_leads, set_leads, remove_leads, insert_last, append_leads, append_normal, clear_leads, clear_normal}
 use Rattle.gl_lines.specs.declared.plan.Command.{Command}
 use Rattle.gl_lines.specs.declared.plan.Command.TheVariants as c
 use Rattle.gl_lines.specs.declared.reply.Reply.TheVariants.{OutOfRange}

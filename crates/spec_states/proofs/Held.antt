@@ -12,24 +12,16 @@ use Rattle.gl_lines.specs.declared.plan.Command.TheVariants as c
 use Rattle.spec_plans.specs.Plan.{origin as about}
 use Rattle.spec_states.specs.State.{Own, State, source, over, composite, transaction, freezable, proxy, inputs, own_at}
 use Rattle.spec_states.specs.Shown.{is_held, shown_of, shown}
-use Rattle.spec_states.specs.Wave.{Cause, command, pump, subject, kept_after, kept_behind, beginning, first_delta, delta_in, is_at, wave_deltas, wave}
+use Rattle.spec_states.specs.Wave.{Cause, command, pump, subject, kept_after, kept_later, beginning, first_delta, delta_in, is_at, wave_deltas, wave}
 use Rattle.spec_states.specs.Laws.{IsSource, IsSound}
-use Rattle.spec_states.proofs.Turns.{input_within}
+use Rattle.spec_states.proofs.DependencyOrder.{input_within}
 use Rattle.spec_states.proofs.Views.{shown_is}
-use Rattle.spec_states.proofs.Kept.{behind_held}
+use Rattle.spec_states.proofs.Kept.{after_held}
 use Rattle.spec_states.proofs.Begun.{MayTakeNow}
 use Rattle.spec_states.proofs.Waves.{at_true, begin_of, IsTaken, elsewhere, taken_back, fits_of, stands, shown_now, told_as, own_now, delta_now, RollsBack}
 use Rattle.spec_states.proofs.Plain.{own_kept, first_told}
-
-of_some : (i j : ℕ) → Some i ≡ Some j → j ≡ i
-of_some i j e = cc
-
-not_equal : (m n : ℕ) → m ≢ n → (m == n) ≡ false
-not_equal m n e = by_test (m == n) refl
-  where
-    by_test : (t : Bool) → (m == n) ≡ t → t ≡ false
-    by_test true f = absurd (e (eqb-true m n f))
-    by_test false f = refl
+use Rattle.spec_states.proofs.Told.{of_some}
+use Rattle.spec_basics.proofs.Numbers.{not_equal}
 
 -- A list that is held, and that the wave isn't about, shows what it did: a frozen list, a transaction list that is open, and a
 -- proxy but in its pump.
@@ -37,7 +29,7 @@ pub held_stays : (s : State) (cause : Cause) → IsSound s → IsTaken s cause �
     → is_held (own_at s k) ≡ true → k ≢ subject cause → shown (wave s cause) k ≡ shown s k
 held_stays s cause h taken k within held other =
     shown_now s cause h taken k within false (not_equal k (subject cause) other)
-    ∙ behind_held k (own_at s k) (shown s) (shown (wave s cause)) (delta_in (wave_deltas s cause)) held (fits_of s h k) (λ i d. (stands s cause h taken i (input_within s h.ordered k i d)).goes)
+    ∙ after_held k (own_at s k) (shown s) (shown (wave s cause)) (delta_in (wave_deltas s cause)) held (fits_of s h k) (λ i d. (stands s cause h taken i (input_within s h.ordered k i d)).goes)
     ∙ sym (shown_is s h k within)
 
 source_free : (own : Own) → IsSource own → is_held own ≡ true → ⊥
@@ -144,7 +136,7 @@ rollback_restores s list input level levels contents h taken there apart is belo
     let back = taken_back s (c.Rollback list) input h there r begun in
     let was : shown s input ≡ contents = shown_is s h input there ∙ ap (λ o. shown_of o (shown s)) below in
     own_now s (command (c.Rollback list)) input there false (not_equal input list apart)
-    ∙ ap (λ o. kept_behind input o (delta_in (wave_deltas s (command (c.Rollback list))))) below
+    ∙ ap (λ o. kept_later input o (delta_in (wave_deltas s (command (c.Rollback list))))) below
     ∙ ap (λ d. source (applied d contents)) back.told
     ∙ ap (λ xs. source (applied (inverse level) xs)) (sym was)
     ∙ ap source (sym back.goes.leads.ends)

@@ -8,13 +8,13 @@ use Rattle.spec_value.specs.Tree.{Tree}
 use Rattle.spec_lists.specs.Piece.{IsNormal}
 use Rattle.spec_lists.specs.Delta.{Delta, no_change, composed}
 use Rattle.spec_lists.specs.Leads.{LeadsTo, IsDelta, applied, undone}
-use Rattle.spec_lists.proofs.Editing.{identity_normal, identity_leads}
-use Rattle.spec_lists.proofs.Leading.{ends_at, undone_is, undone_composed, composed_ends, composed_ends_normal}
+use Rattle.spec_lists.proofs.DeltaEdits.{identity_normal, identity_leads}
+use Rattle.spec_lists.proofs.DeltaLeads.{ends_at, undone_is, undone_composed, composed_ends, composed_ends_normal}
 use Rattle.spec_views.proofs.Views.{follow_of_leads, follow_of_normal}
 use Rattle.spec_views.proofs.Composites.{composite_leads, composite_normal}
 use Rattle.spec_states.specs.State.{Own, State, source, over, composite, transaction, freezable, proxy, inputs}
 use Rattle.spec_states.specs.Shown.{is_held, undone_all, shown_of, shown}
-use Rattle.spec_states.specs.Wave.{kept_behind, follow, delta_by}
+use Rattle.spec_states.specs.Wave.{kept_later, follow, delta_by}
 use Rattle.spec_states.specs.Laws.{Fits, LedTo, LeadOnFrom, since_frozen}
 use Rattle.spec_states.proofs.Views.{Inward, shown_local}
 
@@ -74,36 +74,36 @@ undone_on level d xs ys h g =
     undone_composed level d ys (ends_at d xs ys g.leads) (subst P (sym back) h) ∙ ap (undone level) back
 
 -- what it keeps fits
-pub behind_fits : (list : ℕ) (own : Own) (before after : ℕ → List Tree) (delta : ℕ → Delta)
+pub after_fits : (list : ℕ) (own : Own) (before after : ℕ → List Tree) (delta : ℕ → Delta)
     → FitsOver before own
     → ((i : ℕ) → Contains (inputs own) i → Goes (delta i) (before i) (after i))
-    → FitsOver after (kept_behind list own delta)
-behind_fits list (source contents) before after delta fits lead = tt
-behind_fits list (over input view) before after delta fits lead = tt
-behind_fits list (composite needed members) before after delta fits lead = tt
-behind_fits list (transaction input []) before after delta fits lead = tt
-behind_fits list (transaction input (level ∷ levels)) before after delta fits lead =
+    → FitsOver after (kept_later list own delta)
+after_fits list (source contents) before after delta fits lead = tt
+after_fits list (over input view) before after delta fits lead = tt
+after_fits list (composite needed members) before after delta fits lead = tt
+after_fits list (transaction input []) before after delta fits lead = tt
+after_fits list (transaction input (level ∷ levels)) before after delta fits lead =
     led_on level (delta input) levels (before input) (after input) fits (lead input (Contains-here input [] input refl))
-behind_fits list (freezable input None) before after delta fits lead = tt
-behind_fits list (freezable input (Some since)) before after delta fits lead =
+after_fits list (freezable input None) before after delta fits lead = tt
+after_fits list (freezable input (Some since)) before after delta fits lead =
     led_on since (delta input) [] (before input) (after input) fits (lead input (Contains-here input [] input refl))
-behind_fits list (proxy input kept queue) before after delta fits lead = fits
+after_fits list (proxy input kept queue) before after delta fits lead = fits
 
 -- one that is held goes on to show what it did
-pub behind_held : (list : ℕ) (own : Own) (before after : ℕ → List Tree) (delta : ℕ → Delta)
+pub after_held : (list : ℕ) (own : Own) (before after : ℕ → List Tree) (delta : ℕ → Delta)
     → is_held own ≡ true → FitsOver before own
     → ((i : ℕ) → Contains (inputs own) i → Goes (delta i) (before i) (after i))
-    → shown_of (kept_behind list own delta) after ≡ shown_of own before
-behind_held list (source contents) before after delta held fits lead = absurd cc
-behind_held list (over input view) before after delta held fits lead = absurd cc
-behind_held list (composite needed members) before after delta held fits lead = absurd cc
-behind_held list (transaction input []) before after delta held fits lead = absurd cc
-behind_held list (transaction input (level ∷ levels)) before after delta held fits lead =
+    → shown_of (kept_later list own delta) after ≡ shown_of own before
+after_held list (source contents) before after delta held fits lead = absurd cc
+after_held list (over input view) before after delta held fits lead = absurd cc
+after_held list (composite needed members) before after delta held fits lead = absurd cc
+after_held list (transaction input []) before after delta held fits lead = absurd cc
+after_held list (transaction input (level ∷ levels)) before after delta held fits lead =
     ap (undone_all levels) (undone_on level (delta input) (before input) (after input) fits.0 (lead input (Contains-here input [] input refl)))
-behind_held list (freezable input None) before after delta held fits lead = absurd cc
-behind_held list (freezable input (Some since)) before after delta held fits lead =
+after_held list (freezable input None) before after delta held fits lead = absurd cc
+after_held list (freezable input (Some since)) before after delta held fits lead =
     undone_on since (delta input) (before input) (after input) fits.0 (lead input (Contains-here input [] input refl))
-behind_held list (proxy input kept queue) before after delta held fits lead = refl
+after_held list (proxy input kept queue) before after delta held fits lead = refl
 
 -- one that isn't follows its inputs
 pub follow_goes : (own : Own) (before after : ℕ → List Tree) (delta : ℕ → Delta) → Inward own
@@ -126,7 +126,7 @@ follow_goes (proxy input kept queue) before after delta inward free lead = absur
 
 -- what a list that isn't held keeps, where a source has the delta that changes nothing
 pub kept_free : (list : ℕ) (own : Own) (shows : ℕ → List Tree) (delta : ℕ → Delta)
-    → is_held own ≡ false → delta list ≡ follow own shows delta → kept_behind list own delta ≡ own
+    → is_held own ≡ false → delta list ≡ follow own shows delta → kept_later list own delta ≡ own
 kept_free list (source contents) shows delta free is = ap (λ d. source (applied d contents)) is ∙ ap source (sym (identity_leads contents).ends)
 kept_free list (over input view) shows delta free is = refl
 kept_free list (composite needed members) shows delta free is = refl
@@ -137,36 +137,36 @@ kept_free list (freezable input (Some since)) shows delta free is = absurd cc
 kept_free list (proxy input kept queue) shows delta free is = absurd cc
 
 -- so does its delta lead, whether it is held or not
-pub behind_goes : (list : ℕ) (own : Own) (before after : ℕ → List Tree) (delta : ℕ → Delta) (first : Delta)
+pub after_goes : (list : ℕ) (own : Own) (before after : ℕ → List Tree) (delta : ℕ → Delta) (first : Delta)
     → FitsOver before own → Inward own
     → ((i : ℕ) → Contains (inputs own) i → Goes (delta i) (before i) (after i))
     → delta list
     ≡ delta_by false (is_held own) first (no_change (length (shown_of own before))) (follow own before delta)
-    → Goes (delta list) (shown_of own before) (shown_of (kept_behind list own delta) after)
-behind_goes list own before after delta first fits inward lead is = by_held (is_held own) refl
+    → Goes (delta list) (shown_of own before) (shown_of (kept_later list own delta) after)
+after_goes list own before after delta first fits inward lead is = by_held (is_held own) refl
   where
     by_held : (t : Bool) → is_held own ≡ t
-        → Goes (delta list) (shown_of own before) (shown_of (kept_behind list own delta) after)
+        → Goes (delta list) (shown_of own before) (shown_of (kept_later list own delta) after)
     by_held true held =
-        goes_as (stays (shown_of own before) _ (behind_held list own before after delta held fits lead))
+        goes_as (stays (shown_of own before) _ (after_held list own before after delta held fits lead))
         (is ∙ ap (λ t. delta_by false t first (no_change (length (shown_of own before))) (follow own before delta)) held) refl refl
     by_held false free =
         let follows : delta list ≡ follow own before delta = is ∙ ap (λ t. delta_by false t first (no_change (length (shown_of own before))) (follow own before delta)) free in
         goes_as (follow_goes own before after delta inward free lead) follows refl (ap (λ o. shown_of o after) (kept_free list own before delta free follows))
 
 -- and where its inputs show what they did, so does it
-pub behind_stays : (list : ℕ) (own : Own) (before after : ℕ → List Tree) (delta : ℕ → Delta) (first : Delta)
+pub after_stays : (list : ℕ) (own : Own) (before after : ℕ → List Tree) (delta : ℕ → Delta) (first : Delta)
     → FitsOver before own → Inward own
     → ((i : ℕ) → Contains (inputs own) i → Goes (delta i) (before i) (after i))
     → delta list
     ≡ delta_by false (is_held own) first (no_change (length (shown_of own before))) (follow own before delta)
     → ((i : ℕ) → Contains (inputs own) i → after i ≡ before i)
-    → shown_of (kept_behind list own delta) after ≡ shown_of own before
-behind_stays list own before after delta first fits inward lead is same = by_held (is_held own) refl
+    → shown_of (kept_later list own delta) after ≡ shown_of own before
+after_stays list own before after delta first fits inward lead is same = by_held (is_held own) refl
   where
     by_held : (t : Bool) → is_held own ≡ t
-        → shown_of (kept_behind list own delta) after ≡ shown_of own before
-    by_held true held = behind_held list own before after delta held fits lead
+        → shown_of (kept_later list own delta) after ≡ shown_of own before
+    by_held true held = after_held list own before after delta held fits lead
     by_held false free =
         let follows : delta list ≡ follow own before delta = is ∙ ap (λ t. delta_by false t first (no_change (length (shown_of own before))) (follow own before delta)) free in
         ap (λ o. shown_of o after) (kept_free list own before delta free follows) ∙ shown_local own inward after before same

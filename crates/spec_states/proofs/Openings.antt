@@ -18,7 +18,7 @@ use Rattle.spec_states.specs.State.{Own, State, source, over, composite, transac
 use Rattle.spec_states.specs.Shown.{shown_of, shown}
 use Rattle.spec_states.specs.Opening.{seen_through, shown_first, opening}
 use Rattle.spec_states.specs.Laws.{IsOrdered, IsSource, IsSound}
-use Rattle.spec_states.proofs.Turns.{by_inputs, input_within}
+use Rattle.spec_states.proofs.DependencyOrder.{by_inputs, input_within}
 use Rattle.spec_states.proofs.Views.{Inward, shown_local, shown_in, opening_edges, seen_edges}
 use Rattle.spec_states.proofs.Kept.{FitsOver}
 use Rattle.spec_states.proofs.Waves.{OverSource, fits_from}

@@ -9,12 +9,14 @@ use Rattle.gl_lines.specs.declared.plan.Command.TheVariants as c
 use Rattle.spec_plans.specs.Plan.{origin as about}
 use Rattle.spec_states.specs.State.{Own, State, source, over, composite, transaction, freezable, proxy, own_at}
 use Rattle.spec_states.specs.Shown.{is_held, table_of, shown}
-use Rattle.spec_states.specs.Wave.{Cause, command, pump, kept_after, kept_by, kept_behind, beginning, first_delta, follow, delta_in, is_at, wave_deltas, wave}
+use Rattle.spec_states.specs.Wave.{Cause, command, pump, kept_after, kept_by, kept_later, beginning, first_delta, follow, delta_in, is_at, wave_deltas, wave}
 use Rattle.spec_states.specs.Step.{refusal}
 use Rattle.spec_states.specs.Laws.{IsOrdered, IsSound, Fits, MayAttach, MayTake, Lead}
 use Rattle.spec_states.proofs.Views.{own_past, length-wave}
 use Rattle.spec_states.proofs.Kept.{kept_free}
 use Rattle.spec_states.proofs.Waves.{told_as, own_now, delta_now, after_wave, wave_leads}
+use Rattle.spec_states.proofs.Told.{of_some}
+use Rattle.spec_basics.proofs.Numbers.{not_equal}
 
 -- a source, or a list over one input
 abbrev pub IsPlainOwn : Own → Type 0
@@ -78,7 +80,7 @@ plain_takes given (transaction input levels) h = absurd h
 plain_takes given (freezable input since) h = absurd h
 plain_takes given (proxy input kept queue) h = absurd h
 
-plain_free : (own : Own) → IsPlainOwn own → is_held own ≡ false
+pub plain_free : (own : Own) → IsPlainOwn own → is_held own ≡ false
 plain_free (source contents) h = refl
 plain_free (over input view) h = refl
 plain_free (composite needed members) h = absurd h
@@ -107,14 +109,14 @@ plain_kept_by (pump list) shows (transaction input levels) h = absurd h
 plain_kept_by (pump list) shows (freezable input since) h = absurd h
 plain_kept_by (pump list) shows (proxy input kept queue) h = absurd h
 
-plain_kept_behind : (list : ℕ) (own : Own) (delta : ℕ → Delta) → IsPlainOwn own
-    → IsPlainOwn (kept_behind list own delta)
-plain_kept_behind list (source contents) delta h = tt
-plain_kept_behind list (over input view) delta h = tt
-plain_kept_behind list (composite needed members) delta h = absurd h
-plain_kept_behind list (transaction input levels) delta h = absurd h
-plain_kept_behind list (freezable input since) delta h = absurd h
-plain_kept_behind list (proxy input kept queue) delta h = absurd h
+plain_kept_later : (list : ℕ) (own : Own) (delta : ℕ → Delta) → IsPlainOwn own
+    → IsPlainOwn (kept_later list own delta)
+plain_kept_later list (source contents) delta h = tt
+plain_kept_later list (over input view) delta h = tt
+plain_kept_later list (composite needed members) delta h = absurd h
+plain_kept_later list (transaction input levels) delta h = absurd h
+plain_kept_later list (freezable input since) delta h = absurd h
+plain_kept_later list (proxy input kept queue) delta h = absurd h
 
 -- is plain
 pub wave_plain : (s : State) (cause : Cause) → IsPlain s → IsPlain (wave s cause)
@@ -123,10 +125,7 @@ wave_plain s cause h = plain_from (wave s cause) each
     each : (list : ℕ) → list < length (wave s cause) → IsPlainOwn (own_at (wave s cause) list)
     each list within =
         after_wave IsPlainOwn s cause list (subst (λ n. list < n) (length-wave s cause) within)
-        (λ e. plain_kept_by cause (shown s) (own_at s list) (h list)) (λ e. plain_kept_behind list (own_at s list) (delta_in (wave_deltas s cause)) (h list))
-
-of_some : (i j : ℕ) → Some i ≡ Some j → j ≡ i
-of_some i j e = cc
+        (λ e. plain_kept_by cause (shown s) (own_at s list) (h list)) (λ e. plain_kept_later list (own_at s list) (delta_in (wave_deltas s cause)) (h list))
 
 -- it begins where the command is about, or nowhere
 plain_begins : (given : Command) (own : Own) (number k : ℕ) → IsPlainOwn own
@@ -162,24 +161,17 @@ plain_begins (c.Show list) own number k h e = absurd cc
 
 not_begun : (s : State) (given : Command) (k : ℕ) → IsPlain s → k ≢ about given
     → is_at (beginning given (about given) (own_at s (about given))) k ≡ false
-not_begun s given k plain other = by_place (beginning given (about given) (own_at s (about given))) refl
+not_begun s given k plain other = by_position (beginning given (about given) (own_at s (about given))) refl
   where
     by_test : (n : ℕ) → beginning given (about given) (own_at s (about given)) ≡ Some n → (t : Bool)
         → (k == n) ≡ t → t ≡ false
     by_test n e true f = absurd (other (eqb-true k n f ∙ plain_begins given (own_at s (about given)) (about given) n (plain (about given)) e))
     by_test n e false f = refl
 
-    by_place : (o : Option ℕ) → beginning given (about given) (own_at s (about given)) ≡ o
+    by_position : (o : Option ℕ) → beginning given (about given) (own_at s (about given)) ≡ o
         → is_at o k ≡ false
-    by_place None e = refl
-    by_place (Some n) e = by_test n e (k == n) refl
-
-not_equal : (m n : ℕ) → m ≢ n → (m == n) ≡ false
-not_equal m n e = by_test (m == n) refl
-  where
-    by_test : (t : Bool) → (m == n) ≡ t → t ≡ false
-    by_test true f = absurd (e (eqb-true m n f))
-    by_test false f = refl
+    by_position None e = refl
+    by_position (Some n) e = by_test n e (k == n) refl
 
 -- any other list follows,
 pub plain_follows : (s : State) (given : Command) (k : ℕ) → IsOrdered s → IsPlain s → k < length s

@@ -6,16 +6,16 @@ use Rattle.std.proofs.lemmas.List.Elements.{All-contains}
 use Rattle.spec_order.proofs.Members.{Contains-here}
 use Rattle.spec_value.specs.Tree.{Tree}
 use Rattle.spec_lists.specs.Delta.{Delta, no_change, composed}
-use Rattle.spec_lists.specs.Piece.{turned}
+use Rattle.spec_lists.specs.Piece.{inverted}
 use Rattle.spec_lists.specs.Leads.{applied}
-use Rattle.spec_lists.proofs.Leading.{length_from, applied_no_change}
+use Rattle.spec_lists.proofs.DeltaLeads.{length_from, applied_no_change}
 use Rattle.spec_lists.proofs.Composition.{identity_is_neutral}
 use Rattle.spec_views.specs.View.{follow_of}
 use Rattle.spec_views.proofs.Views.{follow_of_same}
 use Rattle.spec_views.proofs.Same.{composite_same}
 use Rattle.spec_states.specs.State.{Own, State, source, over, composite, transaction, freezable, proxy, inputs, own_at}
 use Rattle.spec_states.specs.Shown.{is_held, shown_of, shown}
-use Rattle.spec_states.specs.Wave.{Cause, subject, kept_behind, follow, delta_in, is_at, wave_deltas, wave}
+use Rattle.spec_states.specs.Wave.{Cause, subject, kept_later, follow, delta_in, is_at, wave_deltas, wave}
 use Rattle.spec_states.specs.Laws.{LedTo, IsSound}
 use Rattle.spec_states.proofs.Views.{Inward, sound_inward, shown_is}
 use Rattle.spec_states.proofs.Kept.{FitsOver}
@@ -56,22 +56,22 @@ quiet_told s cause k h within at untold =
 composed_nothing : (level : Delta) (levels : List Delta) (xs : List Tree)
     → LedTo (level ∷ levels) xs → composed level (no_change (length xs)) ≡ level
 composed_nothing level levels xs h =
-    ap (λ n. composed level (no_change n)) (length_from (map turned level) xs h.0) ∙ (identity_is_neutral level h.1).1
+    ap (λ n. composed level (no_change n)) (length_from (map inverted level) xs h.0) ∙ (identity_is_neutral level h.1).1
 
-quiet_behind : (list : ℕ) (own : Own) (shows : ℕ → List Tree) (delta : ℕ → Delta)
+quiet_after : (list : ℕ) (own : Own) (shows : ℕ → List Tree) (delta : ℕ → Delta)
     → FitsOver shows own → InputsUntold own shows delta
     → delta list ≡ no_change (length (shown_of own shows))
-    → kept_behind list own delta ≡ own
-quiet_behind list (source contents) shows delta fits untold is = ap (λ d. source (applied d contents)) is ∙ ap source (applied_no_change contents)
-quiet_behind list (over input view) shows delta fits untold is = refl
-quiet_behind list (composite needed members) shows delta fits untold is = refl
-quiet_behind list (transaction input []) shows delta fits untold is = refl
-quiet_behind list (transaction input (level ∷ levels)) shows delta fits untold is =
+    → kept_later list own delta ≡ own
+quiet_after list (source contents) shows delta fits untold is = ap (λ d. source (applied d contents)) is ∙ ap source (applied_no_change contents)
+quiet_after list (over input view) shows delta fits untold is = refl
+quiet_after list (composite needed members) shows delta fits untold is = refl
+quiet_after list (transaction input []) shows delta fits untold is = refl
+quiet_after list (transaction input (level ∷ levels)) shows delta fits untold is =
     ap (λ d. transaction input (composed level d ∷ levels)) (untold input (Contains-here input [] input refl)) ∙ ap (λ l. transaction input (l ∷ levels)) (composed_nothing level levels (shows input) fits)
-quiet_behind list (freezable input None) shows delta fits untold is = refl
-quiet_behind list (freezable input (Some since)) shows delta fits untold is =
+quiet_after list (freezable input None) shows delta fits untold is = refl
+quiet_after list (freezable input (Some since)) shows delta fits untold is =
     ap (λ d. freezable input (Some (composed since d))) (untold input (Contains-here input [] input refl)) ∙ ap (λ l. freezable input (Some l)) (composed_nothing since [] (shows input) fits)
-quiet_behind list (proxy input kept queue) shows delta fits untold is = refl
+quiet_after list (proxy input kept queue) shows delta fits untold is = refl
 
 -- it keeps what it does, unless the wave is about it,
 pub quiet_kept : (s : State) (cause : Cause) (k : ℕ) → IsSound s → k < length s
@@ -80,7 +80,7 @@ pub quiet_kept : (s : State) (cause : Cause) (k : ℕ) → IsSound s → k < len
     → own_at (wave s cause) k ≡ own_at s k
 quiet_kept s cause k h within other at untold =
     own_now s cause k within false other
-    ∙ quiet_behind k (own_at s k) (shown s) (delta_in (wave_deltas s cause)) (fits_of s h k) untold
+    ∙ quiet_after k (own_at s k) (shown s) (delta_in (wave_deltas s cause)) (fits_of s h k) untold
     (quiet_told s cause k h within at untold ∙ ap (λ xs. no_change (length xs)) (shown_is s h k within))
 
 -- and shows what it did

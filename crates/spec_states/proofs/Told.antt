@@ -13,12 +13,12 @@ use Rattle.spec_views.proofs.Composites.{composite_follow_local}
 use Rattle.gl_lines.specs.declared.plan.Command.{Command}
 use Rattle.gl_lines.specs.declared.plan.Command.TheVariants as c
 use Rattle.spec_plans.specs.Plan.{origin as about}
-use Rattle.spec_states.specs.State.{Own, State, source, over, composite, transaction, freezable, proxy, inputs, own_at, turns}
+use Rattle.spec_states.specs.State.{Own, State, source, over, composite, transaction, freezable, proxy, inputs, own_at, dependency_order}
 use Rattle.spec_states.specs.Shown.{is_held, table_of, shown}
 use Rattle.spec_states.specs.Wave.{Cause, subject, kept_after, beginning, begins, first_delta, begun_with, follow, delta_in, is_at, delta_by, wave_delta, unchanged, wave_deltas}
 use Rattle.spec_states.specs.Laws.{IsSound}
-use Rattle.spec_states.proofs.Turns.{turns_follow, listed}
-use Rattle.spec_states.proofs.Settling.{settled_is, length-settled}
+use Rattle.spec_states.proofs.DependencyOrder.{order_follow, listed}
+use Rattle.spec_states.proofs.Settled.{settled_is, length-settled}
 use Rattle.spec_states.proofs.Views.{Inward, sound_inward, length-table_of}
 use Rattle.spec_states.proofs.Begun.{MayTakeNow}
 
@@ -44,7 +44,7 @@ length-unchanged : (s : State) → length (unchanged (table_of s)) ≡ length s
 length-unchanged s = length-map (table_of s) (λ xs. no_change (length xs)) ∙ length-table_of s
 
 pub length-wave_deltas : (s : State) (cause : Cause) → length (wave_deltas s cause) ≡ length s
-length-wave_deltas s cause = length-settled [] (λ list delta. wave_delta cause s (shown s) list delta) (unchanged (table_of s)) (turns s) ∙ length-unchanged s
+length-wave_deltas s cause = length-settled [] (λ list delta. wave_delta cause s (shown s) list delta) (unchanged (table_of s)) (dependency_order s) ∙ length-unchanged s
 
 -- in a wave each list has its delta by those of its inputs
 pub each_follows : (s : State) (cause : Cause) (k : ℕ) → IsSound s → k < length s
@@ -52,15 +52,15 @@ pub each_follows : (s : State) (cause : Cause) (k : ℕ) → IsSound s → k < l
     ≡ wave_delta cause s (shown s) k (delta_in (wave_deltas s cause))
 each_follows s cause k h within =
     settled_is [] (λ list. inputs (own_at s list)) (λ list delta. wave_delta cause s (shown s) list delta) (λ list f g same. wave_delta_local cause s (shown s) list (sound_inward s h list) f g same)
-    (unchanged (table_of s)) [] (turns s) k (turns_follow s h.ordered) (listed s h.ordered k within) (rw (length-unchanged s) within)
+    (unchanged (table_of s)) [] (dependency_order s) k (order_follow s h.ordered) (listed s h.ordered k within) (rw (length-unchanged s) within)
 
 -- ---- whether a list is the one where a wave begins
 
-pub at_true : (place : Option ℕ) (k : ℕ) → is_at place k ≡ true → place ≡ Some k
+pub at_true : (position : Option ℕ) (k : ℕ) → is_at position k ≡ true → position ≡ Some k
 at_true None k e = absurd cc
 at_true (Some n) k e = let same : k ≡ n = eqb-true k n e in ap Some (sym same)
 
-at_false : (place : Option ℕ) (k : ℕ) → is_at place k ≡ false → place ≡ Some k → ⊥
+at_false : (position : Option ℕ) (k : ℕ) → is_at position k ≡ false → position ≡ Some k → ⊥
 at_false None k e f = absurd cc
 at_false (Some n) k e f = eqb-false k n e (of_some n k f)
   where

@@ -9,7 +9,7 @@ use Rattle.std.proofs.lemmas.List.FromFn.{get_or-map-range_with_len, length-map-
 use Rattle.std.proofs.lemmas.Option.{unwrap_or-slice_get, slice_get_past}
 use Rattle.std.proofs.lemmas.Simd.{map-map}
 use Rattle.spec_order.proofs.Members.{Contains-here}
-use Rattle.spec_order.specs.Turns.{turns as turns_of}
+use Rattle.spec_order.specs.DependencyOrder.{dependency_order as dependency_order_of}
 use Rattle.spec_value.specs.Tree.{Tree}
 use Rattle.spec_lists.specs.Delta.{Delta}
 use Rattle.spec_lists.specs.Leads.{undone}
@@ -22,14 +22,14 @@ use Rattle.gl_lines.specs.declared.plan.ListKind.{ListKind}
 use Rattle.gl_lines.specs.declared.plan.ListKind.TheVariants.{Source, Filter, Sorted, Unique, Grouping, Range, Function, Collection, Composite, Transaction, Freezable, Proxy}
 use Rattle.gl_lines.specs.declared.reply.Reply.{Reply}
 use Rattle.spec_plans.specs.Plan.{Plan, edges_from, inputs_of, list_edges}
-use Rattle.spec_states.specs.State.{Own, State, source, over, composite, transaction, freezable, proxy, inputs, opening_of, own_at, edges_of, turns}
+use Rattle.spec_states.specs.State.{Own, State, source, over, composite, transaction, freezable, proxy, inputs, opening_of, own_at, edges_of, dependency_order}
 use Rattle.spec_states.specs.Shown.{view, IsHeld, undone_all, shown_of, nothing_shown, table_of, shown, EachShowsItsView}
 use Rattle.spec_states.specs.Opening.{seen_through, opening, shown_first}
-use Rattle.spec_states.specs.Wave.{Cause, command, pump, subject, members_after, kept_after, kept_by, kept_behind, own_after, delta_in, wave_deltas, wave}
+use Rattle.spec_states.specs.Wave.{Cause, command, pump, subject, members_after, kept_after, kept_by, kept_later, own_after, delta_in, wave_deltas, wave}
 use Rattle.spec_states.specs.Step.{step, step_by, unmoved}
 use Rattle.spec_states.specs.Laws.{IsOrdered, Fits, IsSound, MayAttach}
-use Rattle.spec_states.proofs.Turns.{turns_follow, listed}
-use Rattle.spec_states.proofs.Settling.{settled_is, length-settled}
+use Rattle.spec_states.proofs.DependencyOrder.{order_follow, listed, inputs_at}
+use Rattle.spec_states.proofs.Settled.{settled_is, length-settled}
 
 -- the members of a composite are among the lists that it depends on
 abbrev pub Inward : Own → Type 0
@@ -84,14 +84,14 @@ view_local (proxy input kept queue) h f g same = same input (Contains-here input
 
 -- a table has a row for each list of the state
 pub length-table_of : (s : State) → length (table_of s) ≡ length s
-length-table_of s = length-settled [] (λ list shows. shown_of (own_at s list) shows) (nothing_shown s) (turns s) ∙ length-map s (λ own. [])
+length-table_of s = length-settled [] (λ list shows. shown_of (own_at s list) shows) (nothing_shown s) (dependency_order s) ∙ length-map s (λ own. [])
 
 -- each list of an ordered state shows what follows from what its inputs show
 pub shown_in : (s : State) → IsOrdered s → IsInward s → (list : ℕ) → list < length s
     → shown s list ≡ shown_of (own_at s list) (shown s)
 shown_in s h inward list within =
     settled_is [] (λ k. inputs (own_at s k)) (λ k shows. shown_of (own_at s k) shows) (λ k f g same. shown_local (own_at s k) (inward k) f g same)
-    (nothing_shown s) [] (turns s) list (turns_follow s h) (listed s h list within) (rw (length-map {B = List Tree} s (λ own. [])) within)
+    (nothing_shown s) [] (dependency_order s) list (order_follow s h) (listed s h list within) (rw (length-map {B = List Tree} s (λ own. [])) within)
 
 pub shown_is : (s : State) → IsSound s → (list : ℕ) → list < length s
     → shown s list ≡ shown_of (own_at s list) (shown s)
@@ -143,26 +143,26 @@ kept_by_inputs (pump list) shows (transaction input levels) = refl
 kept_by_inputs (pump list) shows (freezable input since) = refl
 kept_by_inputs (pump list) shows (proxy input kept queue) = refl
 
-pub kept_behind_inputs : (list : ℕ) (own : Own) (delta : ℕ → Delta)
-    → inputs (kept_behind list own delta) ≡ inputs own
-kept_behind_inputs list (source contents) delta = refl
-kept_behind_inputs list (over input view) delta = refl
-kept_behind_inputs list (composite needed members) delta = refl
-kept_behind_inputs list (transaction input []) delta = refl
-kept_behind_inputs list (transaction input (level ∷ levels)) delta = refl
-kept_behind_inputs list (freezable input None) delta = refl
-kept_behind_inputs list (freezable input (Some since)) delta = refl
-kept_behind_inputs list (proxy input kept queue) delta = refl
+pub kept_later_inputs : (list : ℕ) (own : Own) (delta : ℕ → Delta)
+    → inputs (kept_later list own delta) ≡ inputs own
+kept_later_inputs list (source contents) delta = refl
+kept_later_inputs list (over input view) delta = refl
+kept_later_inputs list (composite needed members) delta = refl
+kept_later_inputs list (transaction input []) delta = refl
+kept_later_inputs list (transaction input (level ∷ levels)) delta = refl
+kept_later_inputs list (freezable input None) delta = refl
+kept_later_inputs list (freezable input (Some since)) delta = refl
+kept_later_inputs list (proxy input kept queue) delta = refl
 
 pub own_after_inputs : (cause : Cause) (s : State) (shows : ℕ → List Tree) (delta : ℕ → Delta) (list : ℕ)
     → inputs (own_after cause s shows delta list) ≡ inputs (own_at s list)
 own_after_inputs cause s shows delta list = by_subject (list == subject cause)
   where
     by_subject : (t : Bool)
-        → inputs (if t then kept_by cause shows (own_at s list) else kept_behind list (own_at s list) delta)
+        → inputs (if t then kept_by cause shows (own_at s list) else kept_later list (own_at s list) delta)
         ≡ inputs (own_at s list)
     by_subject true = kept_by_inputs cause shows (own_at s list)
-    by_subject false = kept_behind_inputs list (own_at s list) delta
+    by_subject false = kept_later_inputs list (own_at s list) delta
 
 -- the inputs of every list stay
 pub wave_inputs_at : (s : State) (cause : Cause) (list : ℕ) → list < length s
@@ -184,11 +184,6 @@ from_range x (y ∷ ys) f a h =
     next : (k : ℕ) → f (a + 1 + k) ≡ f (a + suc k)
     next k = let e : a + 1 + k ≡ a + suc k = omega arith in ap f e
 
-inputs_at : (s : State) (k : ℕ) → unwrap_or (slice_get (map inputs s) k) [] ≡ inputs (own_at s k)
-inputs_at [] k = refl
-inputs_at (own ∷ s) zero = refl
-inputs_at (own ∷ s) (suc k) = inputs_at s k
-
 wave_inputs : (s : State) (cause : Cause) → map inputs (wave s cause) ≡ map inputs s
 wave_inputs s cause =
     let after = own_after cause s (shown s) (delta_in (wave_deltas s cause)) in
@@ -202,8 +197,8 @@ wave_inputs s cause =
 pub wave_edges : (s : State) (cause : Cause) → edges_of (wave s cause) ≡ edges_of s
 wave_edges s cause = ap (edges_from 0) (wave_inputs s cause)
 
-pub wave_turns : (s : State) (cause : Cause) → turns (wave s cause) ≡ turns s
-wave_turns s cause = ap (λ n. turns_of n (edges_of (wave s cause))) (length-wave s cause) ∙ ap (turns_of (length s)) (wave_edges s cause)
+pub wave_order : (s : State) (cause : Cause) → dependency_order (wave s cause) ≡ dependency_order s
+wave_order s cause = ap (λ n. dependency_order_of n (edges_of (wave s cause))) (length-wave s cause) ∙ ap (dependency_order_of (length s)) (wave_edges s cause)
 
 pub wave_ordered : (s : State) (cause : Cause) → IsOrdered s → IsOrdered (wave s cause)
 wave_ordered s cause h = record { within = rw (wave_edges s cause, length-wave s cause) h.within; acyclic = rw (wave_edges s cause) h.acyclic }
@@ -258,25 +253,25 @@ kept_by_inward (pump list) shows (transaction input levels) may h = tt
 kept_by_inward (pump list) shows (freezable input since) may h = tt
 kept_by_inward (pump list) shows (proxy input kept queue) may h = tt
 
-pub kept_behind_inward : (list : ℕ) (own : Own) (delta : ℕ → Delta) → Inward own
-    → Inward (kept_behind list own delta)
-kept_behind_inward list (source contents) delta h = tt
-kept_behind_inward list (over input view) delta h = tt
-kept_behind_inward list (composite needed members) delta h = h
-kept_behind_inward list (transaction input []) delta h = tt
-kept_behind_inward list (transaction input (level ∷ levels)) delta h = tt
-kept_behind_inward list (freezable input None) delta h = tt
-kept_behind_inward list (freezable input (Some since)) delta h = tt
-kept_behind_inward list (proxy input kept queue) delta h = tt
+pub kept_after_inward : (list : ℕ) (own : Own) (delta : ℕ → Delta) → Inward own
+    → Inward (kept_later list own delta)
+kept_after_inward list (source contents) delta h = tt
+kept_after_inward list (over input view) delta h = tt
+kept_after_inward list (composite needed members) delta h = h
+kept_after_inward list (transaction input []) delta h = tt
+kept_after_inward list (transaction input (level ∷ levels)) delta h = tt
+kept_after_inward list (freezable input None) delta h = tt
+kept_after_inward list (freezable input (Some since)) delta h = tt
+kept_after_inward list (proxy input kept queue) delta h = tt
 
 pub wave_inward : (s : State) (cause : Cause) → MayAttachBy cause (own_at s (subject cause))
     → IsInward s → IsInward (wave s cause)
 wave_inward s cause may h = inward_from (wave s cause) each
   where
     by_subject : (list : ℕ) (t : Bool) → (list == subject cause) ≡ t
-        → Inward (if t then kept_by cause (shown s) (own_at s list) else kept_behind list (own_at s list) (delta_in (wave_deltas s cause)))
+        → Inward (if t then kept_by cause (shown s) (own_at s list) else kept_later list (own_at s list) (delta_in (wave_deltas s cause)))
     by_subject list true e = kept_by_inward cause (shown s) (own_at s list) (subst (λ k. MayAttachBy cause (own_at s k)) (sym (eqb-true list (subject cause) e)) may) (h list)
-    by_subject list false e = kept_behind_inward list (own_at s list) (delta_in (wave_deltas s cause)) (h list)
+    by_subject list false e = kept_after_inward list (own_at s list) (delta_in (wave_deltas s cause)) (h list)
 
     each : (list : ℕ) → list < length (wave s cause) → Inward (own_at (wave s cause) list)
     each list within =

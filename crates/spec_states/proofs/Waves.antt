@@ -6,19 +6,19 @@ use Rattle.std.proofs.lemmas.List.{length-map}
 use Rattle.spec_lists.specs.Piece.{IsNormal}
 use Rattle.spec_lists.specs.Delta.{no_change}
 use Rattle.spec_lists.specs.Leads.{IsDelta}
-use Rattle.spec_lists.proofs.Editing.{identity_normal, identity_leads}
+use Rattle.spec_lists.proofs.DeltaEdits.{identity_normal, identity_leads}
 use Rattle.gl_lines.specs.declared.plan.Command.{Command}
 use Rattle.gl_lines.specs.declared.plan.Command.TheVariants as c
 use Rattle.gl_lines.specs.declared.reply.Reply.{Reply}
 use Rattle.spec_plans.specs.Plan.{origin as about}
-use Rattle.spec_states.specs.State.{State, own_at, turns}
+use Rattle.spec_states.specs.State.{State, own_at, dependency_order}
 use Rattle.spec_states.specs.Shown.{Table, shows_in, table_of}
 use Rattle.spec_states.specs.Wave.{Cause, command, pump, delta_in, unchanged, wave_deltas, wave}
 use Rattle.spec_states.specs.Step.{step, step_by, refusal, too_long, unmoved}
 use Rattle.spec_states.specs.Laws.{IsSound, MayAttach, MayTake, Lead}
 use Rattle.spec_states.proofs.Views.{length-table_of, length-wave}
 pub use Rattle.spec_states.proofs.Told.{follow_local, wave_delta_local, length-wave_deltas, each_follows, at_true, RollsBack, elsewhere}
-pub use Rattle.spec_states.proofs.Standing.{IsTaken, taken_attaches, begin_of, Unbegun, Stands, fits_at, fits_of, kept_as, told_as, own_now, shown_now, delta_now, IsTakenBack, source_below, taken_back, taken_back_shown, stands}
+pub use Rattle.spec_states.proofs.Stands.{IsTaken, taken_attaches, begin_of, Unbegun, Stands, fits_at, fits_of, kept_as, told_as, own_now, shown_now, delta_now, IsTakenBack, source_below, taken_back, taken_back_shown, stands}
 pub use Rattle.spec_states.proofs.Sound.{OverSource, fits_from, after_wave, wave_source, wave_sound_by, wave_sound, pump_sound}
 
 -- each delta of a wave leads from what its list showed before to what it shows after
@@ -26,7 +26,7 @@ pub wave_leads_by : (s : State) (cause : Cause) → IsSound s → IsTaken s caus
     → Lead (wave_deltas s cause) (table_of s) (table_of (wave s cause))
 wave_leads_by s cause h taken =
     let rows : length (table_of s) ≡ length s = length-table_of s in
-    let each : (k : ℕ) → k < length (table_of s) → Stands s cause (turns s) k = λ k within. stands s cause h taken k (subst (λ n. k < n) rows within) in
+    let each : (k : ℕ) → k < length (table_of s) → Stands s cause (dependency_order s) k = λ k within. stands s cause h taken k (subst (λ n. k < n) rows within) in
     record {
       long = length-wave_deltas s cause ∙ sym rows;
       same = length-table_of (wave s cause) ∙ length-wave s cause ∙ sym rows;

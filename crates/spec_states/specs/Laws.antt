@@ -81,5 +81,6 @@ MayTake command other = ⊤
 pub record Lead (deltas : Deltas) (before after : Table) : Type 0 where
   pub long : length deltas ≡ length before
   pub same : length after ≡ length before
-  pub each : (list : ℕ) → list < length before → IsDelta (delta_in deltas list) (shows_in before list) (shows_in after list)
+  pub each : (list : ℕ) → list < length before
+      → IsDelta (delta_in deltas list) (shows_in before list) (shows_in after list)
   pub normal : (list : ℕ) → list < length before → IsNormal (delta_in deltas list)

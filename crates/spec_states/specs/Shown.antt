@@ -5,7 +5,7 @@ use Rattle.spec_lists.specs.Delta.{Delta}
 use Rattle.spec_lists.specs.Leads.{undone}
 use Rattle.spec_views.specs.View.{view_of}
 use Rattle.spec_views.specs.Composite.{composite_view}
-use Rattle.spec_states.specs.State.{Own, State, source, over, composite, transaction, freezable, proxy, own_at, turns}
+use Rattle.spec_states.specs.State.{Own, State, source, over, composite, transaction, freezable, proxy, own_at, dependency_order}
 
 -- the view of a list that isn't held, over what each number's list shows
 abbrev pub view : Own → (ℕ → List Tree) → List Tree
@@ -63,7 +63,7 @@ nothing_shown s = map (λ own. []) s
 
 -- what every list of the state shows
 abbrev pub table_of : State → Table
-table_of s = settled s (nothing_shown s) (turns s)
+table_of s = settled s (nothing_shown s) (dependency_order s)
 
 -- what one list of the state shows
 abbrev pub shown : State → ℕ → List Tree
@@ -71,4 +71,6 @@ shown s list = shows_in (table_of s) list
 
 -- each list that isn't held shows its view of what its inputs show
 abbrev pub EachShowsItsView : State → Type 0
-EachShowsItsView s = (list : ℕ) → list < length s → ¬ IsHeld (own_at s list) → shown s list ≡ view (own_at s list) (shown s)
+EachShowsItsView s =
+    (list : ℕ) → list < length s → ¬ IsHeld (own_at s list)
+    → shown s list ≡ view (own_at s list) (shown s)

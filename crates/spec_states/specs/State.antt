@@ -1,7 +1,7 @@
 -- The state of a plan: what each list keeps of its own. What lists show is no part of it.
 use Rattle.std.specs.Prelude.{ℕ, List, [], ◌∷◌, ◌++◌, length, map, unwrap_or, slice_get, Option, Some, None}
 use Rattle.spec_value.specs.Tree.{Tree}
-use Rattle.spec_order.specs.Turns.{turns as turns_of}
+use Rattle.spec_order.specs.DependencyOrder.{dependency_order as dependency_order_of}
 use Rattle.spec_lists.specs.Delta.{Delta}
 use Rattle.spec_views.specs.View.{View, filter, sorted, unique, grouping, range, function, collection}
 use Rattle.gl_lines.specs.declared.plan.ListKind.{ListKind}
@@ -58,5 +58,5 @@ edges_of s = edges_from 0 (map inputs s)
 
 -- the numbers of the lists in the dependency order: each after those that it depends on, and the least number first where
 -- several may come next
-abbrev pub turns : State → List ℕ
-turns s = turns_of (length s) (edges_of s)
+abbrev pub dependency_order : State → List ℕ
+dependency_order s = dependency_order_of (length s) (edges_of s)

@@ -7,7 +7,7 @@ use Rattle.gl_lines.specs.declared.plan.Command.TheVariants as c
 use Rattle.gl_lines.specs.declared.reply.Reply.{Reply}
 use Rattle.gl_lines.specs.declared.reply.Reply.TheVariants.{Done, Shown, OutOfRange, TooLong, AlreadyFrozen, NotFrozen, NotOpen}
 use Rattle.spec_plans.specs.Plan.{origin as about}
-use Rattle.spec_states.specs.State.{Own, State, source, over, composite, transaction, freezable, proxy, own_at, turns}
+use Rattle.spec_states.specs.State.{Own, State, source, over, composite, transaction, freezable, proxy, own_at, dependency_order}
 use Rattle.spec_states.specs.Shown.{Table, shows_in, table_of, shown}
 use Rattle.spec_states.specs.Wave.{Cause, command, Deltas, wave, unchanged, wave_deltas}
 
@@ -68,7 +68,7 @@ first_longer limit t (list ∷ lists) =
 
 -- the first list in dependency order that shows too many elements, if any does
 abbrev pub too_long : ℕ → State → Option Reply
-too_long limit s = first_longer limit (table_of s) (turns s)
+too_long limit s = first_longer limit (table_of s) (dependency_order s)
 
 -- the reply of a command that changes nothing: what a list shows, or a refusal
 abbrev pub unmoved : ℕ → State → Command → Option Reply
@@ -83,7 +83,8 @@ pub record Step : Type 0 where
 
 abbrev pub step_by : Option Reply → State → Command → Step
 step_by (Some reply) s c = record { state = s; reply = reply; deltas = unchanged (table_of s) }
-step_by None s c = record { state = wave s (command c); reply = Done; deltas = wave_deltas s (command c) }
+step_by None s c =
+    record { state = wave s (command c); reply = Done; deltas = wave_deltas s (command c) }
 
 -- one command, where lists have at most so many elements: the first case that fits
 abbrev pub step : ℕ → State → Command → Step

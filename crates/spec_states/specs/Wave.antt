@@ -11,7 +11,7 @@ use Rattle.spec_views.specs.Composite.{composite_view, composite_follow, attach_
 use Rattle.gl_lines.specs.declared.plan.Command.{Command}
 use Rattle.gl_lines.specs.declared.plan.Command.TheVariants as c
 use Rattle.spec_plans.specs.Plan.{origin as about}
-use Rattle.spec_states.specs.State.{Own, State, source, over, composite, transaction, freezable, proxy, own_at, turns}
+use Rattle.spec_states.specs.State.{Own, State, source, over, composite, transaction, freezable, proxy, own_at, dependency_order}
 use Rattle.spec_states.specs.Shown.{Table, shows_in, is_held, table_of, shown}
 
 -- what makes a wave: a command, or the pump of a proxy, by its number among the lists
@@ -78,8 +78,10 @@ abbrev pub kept_after : Command → (ℕ → List Tree) → Own → Own
 kept_after c shows (source contents) = source (edited c contents)
 kept_after c shows (over input view) = over input (view_after (parameter_of c) view)
 kept_after c shows (composite needed members) = composite needed (members_after c members)
-kept_after c shows (transaction input levels) = transaction input (levels_after c (length (shows input)) levels)
-kept_after c shows (freezable input since) = freezable input (since_after c (length (shows input)) since)
+kept_after c shows (transaction input levels) =
+    transaction input (levels_after c (length (shows input)) levels)
+kept_after c shows (freezable input since) =
+    freezable input (since_after c (length (shows input)) since)
 kept_after c shows (proxy input kept queue) = proxy input kept queue
 
 -- the first delta that a proxy is yet to take; without one nothing changes
@@ -89,7 +91,8 @@ next_of_queue kept (d ∷ queue) = d
 
 -- what a list keeps after its pump
 abbrev pub pumped : Own → Own
-pumped (proxy input kept queue) = proxy input (applied (next_of_queue kept queue) kept) (drop 1 queue)
+pumped (proxy input kept queue) =
+    proxy input (applied (next_of_queue kept queue) kept) (drop 1 queue)
 pumped other = other
 
 -- what the list keeps that a wave is about
@@ -187,11 +190,13 @@ delta_by false false first stay followed = followed
 abbrev pub wave_delta : Cause → State → (ℕ → List Tree) → ℕ → (ℕ → Delta) → Delta
 wave_delta cause s shows list delta =
     delta_by (is_at (begins cause (own_at s (subject cause))) list) (is_held (own_at s list))
-    (begun_with cause (own_at s (subject cause)) shows) (no_change (length (shows list))) (follow (own_at s list) shows delta)
+    (begun_with cause (own_at s (subject cause)) shows) (no_change (length (shows list)))
+    (follow (own_at s list) shows delta)
 
 -- the deltas once this list has its own
 abbrev pub settle_delta : State → Cause → Table → Deltas → ℕ → Deltas
-settle_delta s cause t deltas list = slice_set deltas list (wave_delta cause s (shows_in t) list (delta_in deltas))
+settle_delta s cause t deltas list =
+    slice_set deltas list (wave_delta cause s (shows_in t) list (delta_in deltas))
 
 -- nothing changes
 abbrev pub unchanged : Table → Deltas
@@ -199,22 +204,27 @@ unchanged t = map (λ xs. no_change (length xs)) t
 
 -- the delta of every list in a wave, in the dependency order
 abbrev pub wave_deltas : State → Cause → Deltas
-wave_deltas s cause = fold (settle_delta s cause (table_of s)) (unchanged (table_of s)) (turns s)
+wave_deltas s cause =
+    fold (settle_delta s cause (table_of s)) (unchanged (table_of s)) (dependency_order s)
 
 -- ---- what the lists keep after it
 
 -- What a list keeps that a wave isn't about: a source what its delta makes of its contents; an open transaction list composes the
 -- delta of its source into the innermost level, and a frozen list that of its input into the delta since then.
-abbrev pub kept_behind : ℕ → Own → (ℕ → Delta) → Own
-kept_behind list (source contents) delta = source (applied (delta list) contents)
-kept_behind list (transaction input (level ∷ levels)) delta = transaction input (composed level (delta input) ∷ levels)
-kept_behind list (freezable input (Some since)) delta = freezable input (Some (composed since (delta input)))
-kept_behind list other delta = other
+abbrev pub kept_later : ℕ → Own → (ℕ → Delta) → Own
+kept_later list (source contents) delta = source (applied (delta list) contents)
+kept_later list (transaction input (level ∷ levels)) delta =
+    transaction input (composed level (delta input) ∷ levels)
+kept_later list (freezable input (Some since)) delta =
+    freezable input (Some (composed since (delta input)))
+kept_later list other delta = other
 
 abbrev pub own_after : Cause → State → (ℕ → List Tree) → (ℕ → Delta) → ℕ → Own
 own_after cause s shows delta list =
-    if list == subject cause then kept_by cause shows (own_at s list) else kept_behind list (own_at s list) delta
+    if list == subject cause then kept_by cause shows (own_at s list)
+    else kept_later list (own_at s list) delta
 
 -- the state after a wave
 abbrev pub wave : State → Cause → State
-wave s cause = map (own_after cause s (shown s) (delta_in (wave_deltas s cause))) (range_with_len 0 (length s))
+wave s cause =
+    map (own_after cause s (shown s) (delta_in (wave_deltas s cause))) (range_with_len 0 (length s))

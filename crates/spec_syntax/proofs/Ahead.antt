@@ -1,11 +1,11 @@
--- What stands behind a thing: words of a table, things behind a word, repetitions.
+-- What stands after a thing: words of a table, things after a word, repetitions.
 use Rattle.std.proofs.Common.{◌≡◌, ℕ, zero, suc, Bool, true, false, List, [], ◌∷◌, ◌++◌, refl, sym, ap, ◌∙◌, inl, inr}
 use Rattle.std.specs.List.{AllByRecursion}
 use Rattle.std.proofs.lemmas.Bool.{false≢true}
-use Rattle.spec_grammar.specs.Grammar.{Grammar, after, many, more_of, upto, words}
-use Rattle.spec_grammar.specs.Reader.{first_is}
-use Rattle.spec_grammar.proofs.Reading.{Tails, followed, Has, HasTail}
-use Rattle.spec_grammar.proofs.Repetitions.{Begun, Unbegun, first_is-append, first_other}
+use Rattle.spec_syntax.specs.Grammar.{Grammar, after, many, more_of, upto, words}
+use Rattle.spec_syntax.specs.Reader.{first_is}
+use Rattle.spec_syntax.proofs.ReadSteps.{Tails, followed, Has, HasTail}
+use Rattle.spec_syntax.proofs.Repetitions.{Begun, Unbegun, first_is-append, first_other}
 
 -- a class without some of its bytes
 less : (a b : Bool) → (b ≡ true → a ≡ true) → a ≡ false → b ≡ false

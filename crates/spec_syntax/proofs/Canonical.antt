@@ -6,18 +6,19 @@ use Rattle.std.proofs.lemmas.Bool.{false≢true}
 use Rattle.std.proofs.lemmas.Bool.Decides.{nat_tests}
 use Rattle.std.proofs.lemmas.Grind.{flat_map-append}
 use Rattle.spec_value.specs.Tree.{Tree, text, items_of, trees}
-use Rattle.spec_grammar.specs.Grammar.{Grammar, optional, after, many, listed}
-use Rattle.spec_texts.specs.Value.{hex_digit, spelled_byte, spelled_value, spelled_elements, spelled_others}
+use Rattle.spec_syntax.specs.Grammar.{Grammar, optional, after, many, listed}
+use Rattle.spec_syntax.specs.ValueText.{hex_digit, spelled_byte, spelled_value, spelled_elements, spelled_others}
 use Rattle.spec_syntax.specs.Number.{between}
-use Rattle.spec_syntax.specs.Text.{continued, is_lead, behind_lead, plain, is_hex, hex_value, second_hex, hex_byte, is_short, short_for, escape, char, joined, texts}
+use Rattle.spec_syntax.specs.Text.{continued, is_lead, after_lead, plain, is_hex, hex_value, second_hex, hex_byte, is_short, short_for, escape, char, joined, texts}
 use Rattle.spec_syntax.specs.Value.{list_of, leaf, value, any_value}
 use Rattle.spec_syntax.proofs.Spellings.{number_is}
+use Rattle.spec_basics.proofs.Booleans.{and_left}
 
 -- the spelling of bytes
 abbrev pub spelled : List ℕ → List ℕ
 spelled bytes = flat_map spelled_byte bytes
 
-high_byte : (b : ℕ) → 128 ≤ b → spelled_byte b ≡ b ∷ []
+pub high_byte : (b : ℕ) → 128 ≤ b → spelled_byte b ≡ b ∷ []
 high_byte b h = grind (arith, nat_tests)
 
 lead_byte : (b : ℕ) → is_lead b ≡ true → spelled_byte b ≡ b ∷ []
@@ -43,8 +44,8 @@ high_either : (b : Bool) (xs ys : List (ℕ × ℕ)) → AreHigh xs → AreHigh 
 high_either true xs ys h g = h
 high_either false xs ys h g = g
 
-high_behind : (b : ℕ) → AreHigh (behind_lead b)
-high_behind b =
+high_after : (b : ℕ) → AreHigh (after_lead b)
+high_after b =
     high_either (leb b 127) _ _ tt
     (high_either (leb b 223) _ _ (omega arith, tt)
     (high_either (eqb b 224) _ _ (omega arith, (omega arith, tt))
@@ -55,7 +56,7 @@ high_behind b =
 
 pub plain_is : (bs t : List ℕ) → plain bs t → t ≡ spelled bs
 plain_is bs t s =
-    two_parts s.0.0 s.0.1 bs t (s.0.0 ∷ []) s.1.1 s.2 (lead_byte s.0.0 s.1.0) (continued_is (behind_lead s.0.0) (high_behind s.0.0) s.0.1 s.1.1 s.1.2) s.1.3
+    two_parts s.0.0 s.0.1 bs t (s.0.0 ∷ []) s.1.1 s.2 (lead_byte s.0.0 s.1.0) (continued_is (after_lead s.0.0) (high_after s.0.0) s.0.1 s.1.1 s.1.2) s.1.3
 
 -- a hexadecimal digit is that of its value
 hex_digit_is : (d : ℕ) → is_hex d ≡ true → (hex_value d < 16) × (hex_digit (hex_value d) ≡ d)
@@ -63,10 +64,6 @@ hex_digit_is d h = (grind (arith, nat_tests), grind (arith, nat_tests))
 
 first_hex : (c : ℕ) → between 48 49 c ≡ true → (hex_value c < 2) × (hex_digit (hex_value c) ≡ c)
 first_hex c h = (grind (arith, nat_tests), grind (arith, nat_tests))
-
-and_left : (a b : Bool) → (a && b) ≡ true → a ≡ true
-and_left true b h = refl
-and_left false b h = absurd (false≢true h)
 
 -- no line feed and no tab
 not_short : (c d : ℕ) → between 48 49 c ≡ true → second_hex c d ≡ true → (hex_value c * 16 + hex_value d ≡ 10 → ⊥) × (hex_value c * 16 + hex_value d ≡ 9 → ⊥)
@@ -137,8 +134,8 @@ Canonical V = (a : Tree) (t : List ℕ) → V a t → t ≡ spelled_value a
 others_are : (V : Grammar Tree) → Canonical V → (list : List Tree) (t : List ℕ) → many (after (codes ",") V) list t → t ≡ spelled_others (trees list)
 others_are V h [] t s = s
 others_are V h (a ∷ list) t s =
-    let behind : s.0 ≡ 44 ∷ spelled_value a = s.2.1.4 ∙ ap (λ x. x ++ s.2.1.1) s.2.1.2 ∙ ap (λ x. 44 ∷ x) (h s.2.0.1 s.2.1.1 s.2.1.3 ∙ ap spelled_value (sym s.2.2)) in
-    s.4 ∙ ap (λ x. x ++ s.1) behind ∙ ap (λ x. 44 ∷ (spelled_value a ++ x)) (others_are V h list s.1 s.3)
+    let after_word : s.0 ≡ 44 ∷ spelled_value a = s.2.1.4 ∙ ap (λ x. x ++ s.2.1.1) s.2.1.2 ∙ ap (λ x. 44 ∷ x) (h s.2.0.1 s.2.1.1 s.2.1.3 ∙ ap spelled_value (sym s.2.2)) in
+    s.4 ∙ ap (λ x. x ++ s.1) after_word ∙ ap (λ x. 44 ∷ (spelled_value a ++ x)) (others_are V h list s.1 s.3)
 
 elements_are : (V : Grammar Tree) → Canonical V → (list : List Tree) (t : List ℕ) → optional [] (listed V (codes ",")) list t → t ≡ spelled_elements (trees list)
 elements_are V h list t s = elim s as (λ _. t ≡ spelled_elements (trees list)) [

@@ -1,11 +1,11 @@
 -- What texts begin with.
 use Rattle.std.proofs.Common.{◌≡◌, ℕ, Bool, true, false, List, [], ◌∷◌, ◌++◌, ap, ◌∙◌, inl, inr}
 use Rattle.std.proofs.lemmas.Bool.{false≢true}
-use Rattle.spec_grammar.specs.Grammar.{Grammar, word, mapped, either, after, led}
-use Rattle.spec_grammar.specs.Reader.{first_is}
-use Rattle.spec_grammar.proofs.Reading.{Tails}
-use Rattle.spec_grammar.proofs.Choices.{NoneStarts}
-use Rattle.spec_grammar.proofs.Repetitions.{Begun, none_begun, other_byte}
+use Rattle.spec_syntax.specs.Grammar.{Grammar, word, mapped, either, after, led}
+use Rattle.spec_syntax.specs.Reader.{first_is}
+use Rattle.spec_syntax.proofs.ReadSteps.{Tails}
+use Rattle.spec_syntax.proofs.Choices.{NoneStarts}
+use Rattle.spec_syntax.proofs.Repetitions.{Begun, none_begun, other_byte}
 use Rattle.spec_syntax.specs.ValueReader.{is}
 
 pub begun_led : {B : Type 0} (p : ℕ → Bool) (T : ℕ → Grammar B) → Begun p (led p T)

@@ -1,11 +1,11 @@
 -- The reader of functions reads its grammar.
 use Rattle.std.proofs.Common.{◌≡◌, ℕ, zero, suc, Bool, false, eqb, [], ◌∷◌, ◌++◌, refl, inl, inr, arith, codes}
-use Rattle.spec_grammar.specs.Grammar.{Grammar, mapped, word, either, after, closed, apart}
-use Rattle.spec_grammar.specs.Reader.{Reader, made_of, behind, close, sep, or_else}
-use Rattle.spec_grammar.proofs.Reading.{Tails, followed, Reads, Has, HasTail}
-use Rattle.spec_grammar.proofs.Sequences.{followed_has, made_of_reads, behind_reads, close_reads, sep_reads}
-use Rattle.spec_grammar.proofs.Choices.{NoneStarts, or_else_reads}
-use Rattle.spec_grammar.proofs.Repetitions.{Begun, begun_word, starts_begun, unbegun_word}
+use Rattle.spec_syntax.specs.Grammar.{Grammar, mapped, word, either, after, closed, apart}
+use Rattle.spec_syntax.specs.Reader.{Reader, made_of, after_word, close, sep, or_else}
+use Rattle.spec_syntax.proofs.ReadSteps.{Tails, followed, Reads, Has, HasTail}
+use Rattle.spec_syntax.proofs.Sequences.{followed_has, made_of_reads, after_reads, close_reads, sep_reads}
+use Rattle.spec_syntax.proofs.Choices.{NoneStarts, or_else_reads}
+use Rattle.spec_syntax.proofs.Repetitions.{Begun, begun_word, starts_begun, unbegun_word}
 use Rattle.spec_lang.specs.Func.{Func, at_path, number, bytes, count, total, sum}
 use Rattle.spec_syntax.specs.Number as numbers
 use Rattle.spec_syntax.specs.Number.{between}
@@ -31,12 +31,12 @@ has_pair V some =
 
 pub pair_reads : {A : Type 0} (n : ℕ) (p : ℕ → Bool) (V : Grammar A) (r : Reader A) (F : Tails) → p 44 ≡ false → p 41 ≡ false → Has V → HasTail F → ReadsAhead n p V r → Reads n (closed (apart V (codes ",") V) (codes ")")) F (close (sep r (codes ",") r) (codes ")"))
 pair_reads n p V r F comma parenthesis has some reads =
-    let behind_it : Tails = followed (word (codes ")")) F in
-    let more : HasTail behind_it = followed_has (word (codes ")")) F (tt, 41 ∷ [], refl) some in
+    let after_it : Tails = followed (word (codes ")")) F in
+    let more : HasTail after_it = followed_has (word (codes ")")) F (tt, 41 ∷ [], refl) some in
     close_reads n (apart V (codes ",") V) (codes ")") F (sep r (codes ",") r) some
-    (sep_reads n V (codes ",") V behind_it r r has more
-    (reads (followed (after (codes ",") V) behind_it) (followed_has (after (codes ",") V) behind_it (has_after (codes ",") V has) more) (unbegun_after p 44 [] V behind_it comma))
-    (reads behind_it more (unbegun_word p 41 [] F parenthesis)))
+    (sep_reads n V (codes ",") V after_it r r has more
+    (reads (followed (after (codes ",") V) after_it) (followed_has (after (codes ",") V) after_it (has_after (codes ",") V has) more) (unbegun_after p 44 [] V after_it comma))
+    (reads after_it more (unbegun_word p 41 [] F parenthesis)))
 
 begun_counting : Begun (is 99) counting
 begun_counting = begun_mapped (is 99) count (after (codes "count(") (closed path (codes ")"))) (begun_word (is 99) 99 (codes "ount(") (closed path (codes ")")) refl)
@@ -49,14 +49,14 @@ has_closed_path = ([], 46 ∷ 41 ∷ [], (([], tt), (46 ∷ [], 41 ∷ [], has_p
 
 counting_reads : (n : ℕ) (F : Tails) → HasTail F → Reads n counting F read_counting
 counting_reads n F some =
-    made_of_reads n count (after (codes "count(") (closed path (codes ")"))) F (behind (codes "count(") (close read_path (codes ")")))
-    (behind_reads n n (codes "count(") (closed path (codes ")")) F (close read_path (codes ")")) (omega arith) has_closed_path some
+    made_of_reads n count (after (codes "count(") (closed path (codes ")"))) F (after_word (codes "count(") (close read_path (codes ")")))
+    (after_reads n n (codes "count(") (closed path (codes ")")) F (close read_path (codes ")")) (omega arith) has_closed_path some
     (close_reads n path (codes ")") F read_path some (path_reads n (followed (word (codes ")")) F) (followed_has (word (codes ")")) F (tt, 41 ∷ [], refl) some) (unbegun_word on_path 41 [] F refl))))
 
 totalling_reads : (n : ℕ) (F : Tails) → HasTail F → Reads n totalling F read_totalling
 totalling_reads n F some =
-    made_of_reads n (λ ab. total ab.0 ab.1) (after (codes "sum(") (closed (apart path (codes ",") path) (codes ")"))) F (behind (codes "sum(") (close (sep read_path (codes ",") read_path) (codes ")")))
-    (behind_reads n n (codes "sum(") (closed (apart path (codes ",") path) (codes ")")) F (close (sep read_path (codes ",") read_path) (codes ")")) (omega arith) (has_pair path has_path) some
+    made_of_reads n (λ ab. total ab.0 ab.1) (after (codes "sum(") (closed (apart path (codes ",") path) (codes ")"))) F (after_word (codes "sum(") (close (sep read_path (codes ",") read_path) (codes ")")))
+    (after_reads n n (codes "sum(") (closed (apart path (codes ",") path) (codes ")")) F (close (sep read_path (codes ",") read_path) (codes ")")) (omega arith) (has_pair path has_path) some
     (pair_reads n on_path path read_path F refl refl has_path some (path_reads n)))
 
 -- a function with no function in it begins with none of the other bytes
@@ -119,8 +119,8 @@ has_func (suc depth) = (at_path [], 46 ∷ [], inr (inr (inl ([], has_path.2, re
 
 adding_reads : (n : ℕ) (V : Grammar Func) (r : Reader Func) (F : Tails) → Has V → HasTail F → ReadsAhead n on_path V r → Reads n (adding V) F (read_adding r)
 adding_reads n V r F has some reads =
-    made_of_reads n (λ ab. sum ab.0 ab.1) (after (codes "add(") (closed (apart V (codes ",") V) (codes ")"))) F (behind (codes "add(") (close (sep r (codes ",") r) (codes ")")))
-    (behind_reads n n (codes "add(") (closed (apart V (codes ",") V) (codes ")")) F (close (sep r (codes ",") r) (codes ")")) (omega arith) (has_pair V has) some
+    made_of_reads n (λ ab. sum ab.0 ab.1) (after (codes "add(") (closed (apart V (codes ",") V) (codes ")"))) F (after_word (codes "add(") (close (sep r (codes ",") r) (codes ")")))
+    (after_reads n n (codes "add(") (closed (apart V (codes ",") V) (codes ")")) F (close (sep r (codes ",") r) (codes ")")) (omega arith) (has_pair V has) some
     (pair_reads n on_path V r F refl refl has some reads))
 
 listing_reads : (n : ℕ) (V : Grammar Func) (r : Reader Func) (F : Tails) → Has V → Unclosing V → HasTail F → ReadsAhead n on_path V r → Reads n (listing V) F (read_listing r)

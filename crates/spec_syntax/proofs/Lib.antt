@@ -1,3 +1,12 @@
+pub mod Missed
+pub mod ReadSteps
+pub mod Sequences
+pub mod Choices
+pub mod Repetitions
+pub mod Folds
+pub mod Joints
+pub mod Tables
+pub mod Wholes
 pub mod Firsts
 pub mod Numbers
 pub mod Texts
@@ -18,3 +27,5 @@ pub mod Within
 pub mod Parentheses
 pub mod Limits
 pub mod Nestings
+pub mod BlockTexts
+pub mod OneBlock

@@ -4,7 +4,7 @@ use Rattle.std.specs.Prelude.{FitsSigned}
 use Rattle.std.specs.Int.{w64}
 use Rattle.std.specs.List.{AllByRecursion}
 use Rattle.spec_value.specs.Tree.{Tree, trees, nesting, trees_nesting}
-use Rattle.spec_grammar.specs.Grammar.{Grammar, after, closed, apart, optional, many, more_of, listed, upto}
+use Rattle.spec_syntax.specs.Grammar.{Grammar, after, closed, apart, optional, many, more_of, listed, upto}
 use Rattle.spec_lang.specs.declared.Bounds.{Bounds}
 use Rattle.spec_lang.specs.declared.Bounds.TheVariants.{Head, Tail, Middle}
 use Rattle.spec_lang.specs.Sorting.{Key}
@@ -18,7 +18,7 @@ use Rattle.spec_syntax.specs.Proper.{IsProper, AreProper, IsPath, IsOrder, IsBou
 use Rattle.spec_syntax.proofs.Spellings.{positive_most, natural_most}
 use Rattle.spec_syntax.proofs.Utf8.{texts_utf8}
 
--- what holds of things behind a word, and ahead of one
+-- what holds of things after a word, and ahead of one
 pub of_after : {A : Type 0} (P : A → Type 0) (w : List ℕ) (S : Grammar A) → ((a : A) (t : List ℕ) → S a t → P a) → (a : A) (t : List ℕ) → after w S a t → P a
 of_after P w S h a t s = subst P (sym s.2) (h s.0.1 s.1.1 s.1.3)
 

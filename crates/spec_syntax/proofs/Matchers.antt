@@ -1,13 +1,13 @@
 -- The reader of matchers reads its grammar.
 use Rattle.std.proofs.Common.{◌≡◌, ℕ, zero, suc, Bool, true, false, ◌||◌, List, [], ◌∷◌, ◌++◌, refl, ap, ◌∙◌, inl, arith, codes}
 use Rattle.std.proofs.lemmas.Bool.Decides.{nat_tests}
-use Rattle.spec_grammar.specs.Grammar.{Grammar, empty, word, both, many, words}
-use Rattle.spec_grammar.specs.Reader.{Reader, first_is, nothing, seq, all_of, table}
-use Rattle.spec_grammar.proofs.Reading.{Tails, followed, Reads, Has, HasTail}
-use Rattle.spec_grammar.proofs.Sequences.{followed_has, made_of_reads, nothing_step, seq_reads, close_reads}
-use Rattle.spec_grammar.proofs.Choices.{or_else_reads}
-use Rattle.spec_grammar.proofs.Repetitions.{Begun, Unbegun, first_is-append, starts_begun, many_reads, unbegun_word}
-use Rattle.spec_grammar.proofs.Tables.{table_reads}
+use Rattle.spec_syntax.specs.Grammar.{Grammar, empty, word, both, many, words}
+use Rattle.spec_syntax.specs.Reader.{Reader, first_is, nothing, seq, all_of, table}
+use Rattle.spec_syntax.proofs.ReadSteps.{Tails, followed, Reads, Has, HasTail}
+use Rattle.spec_syntax.proofs.Sequences.{followed_has, made_of_reads, nothing_step, seq_reads, close_reads}
+use Rattle.spec_syntax.proofs.Choices.{or_else_reads}
+use Rattle.spec_syntax.proofs.Repetitions.{Begun, Unbegun, first_is-append, starts_begun, many_reads, unbegun_word}
+use Rattle.spec_syntax.proofs.Tables.{table_reads}
 use Rattle.spec_lang.specs.declared.Test.{Test}
 use Rattle.spec_lang.specs.declared.Test.TheVariants.{Eq, Ne, Lt, Le, Gt, Ge}
 use Rattle.spec_lang.specs.Matcher as meant
@@ -52,10 +52,10 @@ comparison_reads n F some un =
     (tests_read n F some un))
 
 begun_comparison : Begun (is 46) comparison
-begun_comparison m t s = begun_front t s.1.0 s.1.1 (begun_path s.0.0 s.1.0 s.1.2) s.1.4
+begun_comparison m t s = begun_prefix t s.1.0 s.1.1 (begun_path s.0.0 s.1.0 s.1.2) s.1.4
   where
-    begun_front : (t u v : List ℕ) → first_is (is 46) u ≡ true → t ≡ u ++ v → first_is (is 46) t ≡ true
-    begun_front t u v h e = ap (first_is (is 46)) e ∙ first_is-append (is 46) u v h
+    begun_prefix : (t u v : List ℕ) → first_is (is 46) u ≡ true → t ≡ u ++ v → first_is (is 46) t ≡ true
+    begun_prefix t u v h e = ap (first_is (is 46)) e ∙ first_is-append (is 46) u v h
 
 pub has_comparison : Has comparison
 has_comparison =

@@ -6,12 +6,13 @@ use Rattle.std.proofs.lemmas.Bool.{cases_eq, cases_Bool, false≢true}
 use Rattle.std.proofs.lemmas.Bool.Decides.{nat_tests}
 use Rattle.std.proofs.lemmas.Slice.Eq.{bytes_eq-Decides}
 use Rattle.spec_value.specs.Name.{is_lower, is_name_byte, is_name}
-use Rattle.spec_grammar.specs.Reader.{found, stopped, first_is}
-use Rattle.spec_grammar.proofs.Missed.{missed, missed-same, missed-other, missed-front, missed_all, missed_all', missed_most}
-use Rattle.spec_grammar.proofs.Reading.{Tails, Stops, IsStep, Has, HasTail}
-use Rattle.spec_grammar.proofs.Repetitions.{Begun, Unbegun}
+use Rattle.spec_syntax.specs.Reader.{found, stopped, first_is}
+use Rattle.spec_syntax.proofs.Missed.{missed, missed-same, missed-other, missed-prefix, missed_all, missed_all', missed_most}
+use Rattle.spec_syntax.proofs.ReadSteps.{Tails, Stops, IsStep, Has, HasTail}
+use Rattle.spec_syntax.proofs.Repetitions.{Begun, Unbegun}
 use Rattle.spec_syntax.specs.Name.{name, named, unnamed, read_name}
 use Rattle.spec_syntax.proofs.Lists.{ReadsAhead}
+use Rattle.spec_basics.proofs.Booleans.{and_parts}
 
 pub unnamed_le : (most : ℕ) (bs : List ℕ) → length (unnamed most bs) ≤ length bs
 unnamed_le zero bs = omega arith
@@ -21,7 +22,7 @@ unnamed_le (suc most) (b ∷ bs) = elim (cases_Bool (is_name_byte b)) as (λ _. 
   | inr e ↦ omega (arith, ap (λ x. length (cond x (unnamed most bs) (b ∷ bs))) e)
 ]
 
--- the bytes at the front, and those behind them
+-- the bytes at the front, and those after them
 pub named_parts : (most : ℕ) (bs : List ℕ) → bs ≡ named most bs ++ unnamed most bs
 named_parts zero bs = refl
 named_parts (suc most) [] = refl
@@ -39,10 +40,6 @@ named_bytes (suc most) (b ∷ bs) = elim (cases_Bool (is_name_byte b)) as (λ _.
       (ap (λ x. list_all is_name_byte (cond x (b ∷ named most bs) [])) e ∙ ap (λ x. x && list_all is_name_byte (named most bs)) e ∙ rest.0, omega (arith, ap (λ x. length (cond x (b ∷ named most bs) [])) e, rest.1))
   | inr e ↦ (ap (λ x. list_all is_name_byte (cond x (b ∷ named most bs) [])) e, omega (arith, ap (λ x. length (cond x (b ∷ named most bs) [])) e))
 ]
-
-and_parts : (a b : Bool) → (a && b) ≡ true → (a ≡ true) × (b ≡ true)
-and_parts true b h = (refl, h)
-and_parts false b h = absurd (false≢true h)
 
 -- other bytes of names miss some of what is before the rest
 abbrev Alike : ℕ → List ℕ → List ℕ → List ℕ → Type 0
@@ -86,7 +83,7 @@ name_parts b m h =
     up_to : leb (length m) 31 ≡ true → length m ≤ 31
     up_to e = grind (arith, nat_tests)
 
-lower_byte : (b : ℕ) → is_lower b ≡ true → is_name_byte b ≡ true
+pub lower_byte : (b : ℕ) → is_lower b ≡ true → is_name_byte b ≡ true
 lower_byte b h = grind (arith, nat_tests)
 
 -- a name has bytes of names alone
@@ -157,7 +154,7 @@ may_stops F some un b bs low e =
       tail = some.0;
       spelled = (refl, refl);
       follows = some.1;
-      near = omega (arith, longer, ap (missed (codes "maya" ++ some.0)) parts, missed-front (codes "may") (97 ∷ some.0) (unnamed 31 bs), missed_most (97 ∷ some.0) (unnamed 31 bs));
+      near = omega (arith, longer, ap (missed (codes "maya" ++ some.0)) parts, missed-prefix (codes "may") (97 ∷ some.0) (unnamed 31 bs), missed_most (97 ∷ some.0) (unnamed 31 bs));
       nearest = λ m t v s tail. elim (others_miss F un b bs m t v low s tail) as (λ _. length (unnamed 31 bs) < missed (t ++ v) (b ∷ bs)) [
         | inl h ↦ absurd (false≢true (sym (ap is_name (h.0 ∙ e)) ∙ s.0))
         | inr h ↦ h
@@ -169,7 +166,7 @@ name_step F some un b bs low true e = may_stops F some un b bs low (eq_bytes (b 
 name_step F some un b bs low false e =
     let all = named_bytes 31 bs in
     record {
-      front = b ∷ named 31 bs;
+      prefix = b ∷ named 31 bs;
       spelled = (name_of b (named 31 bs) (low, all.0, all.1, e), refl);
       are = ap (λ x. b ∷ x) (named_parts 31 bs);
       others = λ m t v s tail. others_miss F un b bs m t v low s tail;

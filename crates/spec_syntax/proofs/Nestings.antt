@@ -2,10 +2,10 @@
 use Rattle.std.proofs.Common.{◌≡◌, ℕ, zero, suc, ◌≤◌, List, [], ◌∷◌, sym, ap, ◌∙◌, subst, inl, inr, arith, codes}
 use Rattle.std.specs.List.{AllByRecursion}
 use Rattle.spec_value.specs.Tree.{Tree, nesting}
-use Rattle.spec_grammar.specs.Grammar.{Grammar, after, closed, many, words}
+use Rattle.spec_syntax.specs.Grammar.{Grammar, after, closed, many, words}
 use Rattle.spec_lang.specs.declared.Test.{Test}
 use Rattle.spec_lang.specs.Matcher as meant
-use Rattle.spec_syntax.specs.Matcher.{all_of, any_of, Joint, conjunction, disjunction, up_to_or, behind_or, joint_words, joined_unit, chain, test_words, tested, comparison, formed, negated, flat_words, unit_words, unit, matcher}
+use Rattle.spec_syntax.specs.Matcher.{all_of, any_of, Joint, conjunction, disjunction, up_to_or, after_or, joint_words, joined_unit, chain, test_words, tested, comparison, formed, negated, flat_words, unit_words, unit, matcher}
 use Rattle.spec_syntax.specs.Proper.{IsProper, IsMatcher, AreMatchers, deeper_if, matcher_nesting, units_nesting, choices_nesting}
 use Rattle.spec_syntax.specs.Spelled.{is_joined, is_choice}
 use Rattle.spec_syntax.proofs.Limits.{path_within, value_within}
@@ -69,10 +69,10 @@ up_within depth [] h = tt
 up_within depth ((conjunction, m) ∷ list) h = (h.0, up_within depth list h.1)
 up_within depth ((disjunction, m) ∷ list) h = tt
 
-behind_within : (depth : ℕ) (list : List (Joint × meant.Matcher)) → AreJoined depth list → AllByRecursion (IsChoice depth) (behind_or list)
-behind_within depth [] h = tt
-behind_within depth ((conjunction, m) ∷ list) h = behind_within depth list h.1
-behind_within depth ((disjunction, m) ∷ list) h = (all_of_within depth m (up_to_or list) h.0 (up_within depth list h.1), behind_within depth list h.1)
+later_within : (depth : ℕ) (list : List (Joint × meant.Matcher)) → AreJoined depth list → AllByRecursion (IsChoice depth) (after_or list)
+later_within depth [] h = tt
+later_within depth ((conjunction, m) ∷ list) h = later_within depth list h.1
+later_within depth ((disjunction, m) ∷ list) h = (all_of_within depth m (up_to_or list) h.0 (up_within depth list h.1), later_within depth list h.1)
 
 -- what the grammar of units spells is within the limits
 abbrev AllUnits : ℕ → Grammar meant.Matcher → Type 0
@@ -101,7 +101,7 @@ chain_within : (depth : ℕ) (U : Grammar meant.Matcher) → AllUnits depth U �
 chain_within depth U h m t s =
     let others : AreJoined depth s.0.1 = joints_within depth U h s.0.1 s.1.1 s.1.3 in
     let first : IsChoice depth (all_of s.0.0 (up_to_or s.0.1)) = all_of_within depth s.0.0 (up_to_or s.0.1) (h s.0.0 s.1.0 s.1.2) (up_within depth s.0.1 others) in
-    subst (IsAlone depth) (sym s.2) (any_of_within depth (all_of s.0.0 (up_to_or s.0.1)) (behind_or s.0.1) first (behind_within depth s.0.1 others))
+    subst (IsAlone depth) (sym s.2) (any_of_within depth (all_of s.0.0 (up_to_or s.0.1)) (after_or s.0.1) first (later_within depth s.0.1 others))
 
 abbrev IsLiteral : Test × Tree → Type 0
 IsLiteral tv = IsProper tv.1 × (nesting tv.1 ≤ 64)

@@ -2,13 +2,13 @@
 use Rattle.std.proofs.Common.{◌≡◌, ◌⊎◌, ℕ, ◌+◌, ◌-◌, ◌*◌, ◌<◌, ◌≤◌, pos, Bool, true, false, ◌&&◌, cond, eqb, leb, List, [], ◌∷◌, ◌++◌, length, refl, sym, ap, ◌∙◌, subst, inl, inr, arith, codes}
 use Rattle.std.proofs.lemmas.Bool.{cases_eq, cases_Bool, false≢true}
 use Rattle.std.proofs.lemmas.Bool.Decides.{nat_tests}
-use Rattle.spec_grammar.specs.Grammar.{word, mapped, after, led}
-use Rattle.spec_grammar.specs.Reader.{Step, found, stopped, first_is, read_word, made_of, behind, lead}
-use Rattle.spec_grammar.proofs.Missed.{missed, missed-same, missed-other, missed_all, missed_all', missed_most}
-use Rattle.spec_grammar.proofs.Reading.{Tails, IsStep, Reads, Has, HasTail}
-use Rattle.spec_grammar.proofs.Sequences.{rest_le, made_of_reads, word_reads, behind_reads}
-use Rattle.spec_grammar.proofs.Choices.{NoneStarts, or_else_reads, led_reads}
-use Rattle.spec_grammar.proofs.Repetitions.{Begun, Unbegun, begun_word, starts_begun}
+use Rattle.spec_syntax.specs.Grammar.{word, mapped, after, led}
+use Rattle.spec_syntax.specs.Reader.{Step, found, stopped, first_is, read_word, made_of, after_word, lead}
+use Rattle.spec_syntax.proofs.Missed.{missed, missed-same, missed-other, missed_all, missed_all', missed_most}
+use Rattle.spec_syntax.proofs.ReadSteps.{Tails, IsStep, Reads, Has, HasTail}
+use Rattle.spec_syntax.proofs.Sequences.{rest_le, made_of_reads, word_reads, after_reads}
+use Rattle.spec_syntax.proofs.Choices.{NoneStarts, or_else_reads, led_reads}
+use Rattle.spec_syntax.proofs.Repetitions.{Begun, Unbegun, begun_word, starts_begun}
 use Rattle.spec_syntax.specs.Number.{between, is_digit, longer, positive, natural, negative, number}
 use Rattle.spec_syntax.specs.ValueReader.{is, read_longer, read_positive, read_natural, read_number}
 use Rattle.spec_syntax.proofs.Firsts.{begun_led, begun_mapped, begun_either, begun_more, none_mapped, none_either, none_word, none_after, none_outside}
@@ -16,20 +16,20 @@ use Rattle.spec_syntax.proofs.Firsts.{begun_led, begun_mapped, begun_either, beg
 -- one digit more
 longer_more : (top a : ℕ) (F : Tails) (d : ℕ) (ds : List ℕ) (st : Step ℕ) → Unbegun is_digit F → is_digit d ≡ true → a * 10 + (d - 48) ≤ top → IsStep (longer top (a * 10 + (d - 48))) F ds st → IsStep (longer top a) F (d ∷ ds) st
 longer_more top a F d ds (found n rest) un e l f = record {
-  front = d ∷ f.front;
+  prefix = d ∷ f.prefix;
   spelled = (e, l, f.spelled);
   are = ap (λ x. d ∷ x) f.are;
   others = λ b t v s tail. same_or_not b t v s tail;
 }
   where
-    same_or_not : (b : ℕ) (t v : List ℕ) → longer top a b t → F v → ((b ≡ n) × (t ≡ d ∷ f.front)) ⊎ (length rest < missed (t ++ v) (d ∷ ds))
-    same_or_not b [] v s tail = inr (omega (arith, rest_le ds f.front rest f.are, missed_all' is_digit v (d ∷ ds) (un v tail) e))
-    same_or_not b (x ∷ t) v s tail = elim (cases_eq x d) as (λ _. ((b ≡ n) × ((x ∷ t) ≡ d ∷ f.front)) ⊎ (length rest < missed ((x ∷ t) ++ v) (d ∷ ds))) [
-      | inl q ↦ elim (f.others b t v (subst (λ z. longer top (a * 10 + (z - 48)) b t) q s.2) tail) as (λ _. ((b ≡ n) × ((x ∷ t) ≡ d ∷ f.front)) ⊎ (length rest < missed ((x ∷ t) ++ v) (d ∷ ds))) [
+    same_or_not : (b : ℕ) (t v : List ℕ) → longer top a b t → F v → ((b ≡ n) × (t ≡ d ∷ f.prefix)) ⊎ (length rest < missed (t ++ v) (d ∷ ds))
+    same_or_not b [] v s tail = inr (omega (arith, rest_le ds f.prefix rest f.are, missed_all' is_digit v (d ∷ ds) (un v tail) e))
+    same_or_not b (x ∷ t) v s tail = elim (cases_eq x d) as (λ _. ((b ≡ n) × ((x ∷ t) ≡ d ∷ f.prefix)) ⊎ (length rest < missed ((x ∷ t) ++ v) (d ∷ ds))) [
+      | inl q ↦ elim (f.others b t v (subst (λ z. longer top (a * 10 + (z - 48)) b t) q s.2) tail) as (λ _. ((b ≡ n) × ((x ∷ t) ≡ d ∷ f.prefix)) ⊎ (length rest < missed ((x ∷ t) ++ v) (d ∷ ds))) [
         | inl h ↦ let i = h.1 in inl (h.0, cc)
         | inr h ↦ inr (omega (arith, h, missed-same x d (t ++ v) ds q))
       ]
-      | inr ne ↦ inr (omega (arith, missed-other x d (t ++ v) ds ne, rest_le ds f.front rest f.are))
+      | inr ne ↦ inr (omega (arith, missed-other x d (t ++ v) ds ne, rest_le ds f.prefix rest f.are))
     ]
 longer_more top a F d ds (stopped left) un e l f = record {
   thing = f.thing;
@@ -62,7 +62,7 @@ fits_from false m n h l = absurd (false≢true h)
 
 -- no digit more
 longer_end : (top a : ℕ) (F : Tails) (bs : List ℕ) → first_is (fits top a) bs ≡ false → IsStep (longer top a) F bs (found a bs)
-longer_end top a F bs e = record { front = []; spelled = refl; are = refl; others = λ b t v s tail. none_or_far b t v s }
+longer_end top a F bs e = record { prefix = []; spelled = refl; are = refl; others = λ b t v s tail. none_or_far b t v s }
   where
     none_or_far : (b : ℕ) (t v : List ℕ) → longer top a b t → ((b ≡ a) × (t ≡ [])) ⊎ (length bs < missed (t ++ v) bs)
     none_or_far b [] v s = inl (s, refl)
@@ -122,12 +122,12 @@ none_natural top c F zeroless h =
 pub number_reads : (n : ℕ) (F : Tails) → HasTail F → Unbegun is_digit F → Reads n number F read_number
 number_reads n F some un =
     or_else_reads n (is 45) (mapped negative (after (codes "-") (positive 9223372036854775808))) (mapped pos (natural 9223372036854775807)) F
-    (made_of negative (behind (codes "-") (read_positive 9223372036854775808))) (made_of pos (read_natural 9223372036854775807))
+    (made_of negative (after_word (codes "-") (read_positive 9223372036854775808))) (made_of pos (read_natural 9223372036854775807))
     (starts_begun (is 45) (mapped negative (after (codes "-") (positive 9223372036854775808))) F
     (begun_mapped (is 45) negative (after (codes "-") (positive 9223372036854775808)) (begun_word (is 45) 45 [] (positive 9223372036854775808) refl)))
     (none_mapped (is 45) pos (natural 9223372036854775807) F (none_natural 9223372036854775807 45 F refl refl))
-    (made_of_reads n negative (after (codes "-") (positive 9223372036854775808)) F (behind (codes "-") (read_positive 9223372036854775808))
-    (behind_reads n n (codes "-") (positive 9223372036854775808) F (read_positive 9223372036854775808) (omega arith) (has_positive 9223372036854775808) some (positive_reads n 9223372036854775808 F some un)))
+    (made_of_reads n negative (after (codes "-") (positive 9223372036854775808)) F (after_word (codes "-") (read_positive 9223372036854775808))
+    (after_reads n n (codes "-") (positive 9223372036854775808) F (read_positive 9223372036854775808) (omega arith) (has_positive 9223372036854775808) some (positive_reads n 9223372036854775808 F some un)))
     (made_of_reads n pos (natural 9223372036854775807) F (read_natural 9223372036854775807) (natural_reads n 9223372036854775807 F some un))
 
 -- a number begins with a digit or a minus, and with no other byte

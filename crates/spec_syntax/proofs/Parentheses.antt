@@ -1,19 +1,19 @@
 -- The one spelling of a matcher within the limits is spelled: the grammar has it, with the parentheses that it needs.
 use Rattle.std.proofs.Common.{◌≡◌, ℕ, zero, suc, ◌+◌, ◌≤◌, true, List, [], ◌∷◌, ◌++◌, length, refl, sym, ap, ◌∙◌, inl, inr, arith, append_assoc, append-nil, codes}
 use Rattle.spec_value.specs.Tree.{Tree}
-use Rattle.spec_grammar.specs.Grammar.{Grammar, many, words}
+use Rattle.spec_syntax.specs.Grammar.{Grammar, many, words}
 use Rattle.spec_lang.specs.declared.Test.{Test}
 use Rattle.spec_lang.specs.declared.Test.TheVariants.{Eq, Ne, Lt, Le, Gt, Ge}
 use Rattle.spec_lang.specs.Matcher as meant
-use Rattle.spec_texts.specs.Value.{spelled_value}
+use Rattle.spec_syntax.specs.ValueText.{spelled_value}
 use Rattle.spec_syntax.specs.Value.{value}
-use Rattle.spec_syntax.specs.Matcher.{all_of, any_of, Joint, conjunction, disjunction, up_to_or, behind_or, chained, joint_words, joined_unit, chain, test_words, tested, comparison, unit, matcher}
+use Rattle.spec_syntax.specs.Matcher.{all_of, any_of, Joint, conjunction, disjunction, up_to_or, after_or, chained, joint_words, joined_unit, chain, test_words, tested, comparison, unit, matcher}
 use Rattle.spec_syntax.specs.Proper.{IsMatcher, AreMatchers, deeper_if, matcher_nesting, units_nesting, choices_nesting}
 use Rattle.spec_syntax.specs.Spelled.{spelled_path, spelled_test, is_joined, is_choice, enclosed_if, spelled_matcher, spelled_units, spelled_other_units, spelled_choices, spelled_other_choices}
 use Rattle.spec_syntax.proofs.Spelled.{value_spelled}
 use Rattle.spec_syntax.proofs.Within.{path_spelled}
 
--- a unit behind ` and ` or ` or `
+-- a unit after ` and ` or ` or `
 abbrev Joined : ℕ → Grammar (Joint × meant.Matcher)
 Joined depth = words (joined_unit (unit depth)) joint_words
 
@@ -25,9 +25,9 @@ up_to_joined : (ms : List meant.Matcher) (rest : List (Joint × meant.Matcher)) 
 up_to_joined [] rest h = h
 up_to_joined (m ∷ ms) rest h = ap (λ x. m ∷ x) (up_to_joined ms rest h)
 
-behind_joined : (ms : List meant.Matcher) (rest : List (Joint × meant.Matcher)) → behind_or (joined_by_and ms rest) ≡ behind_or rest
-behind_joined [] rest = refl
-behind_joined (m ∷ ms) rest = behind_joined ms rest
+after_joined : (ms : List meant.Matcher) (rest : List (Joint × meant.Matcher)) → after_or (joined_by_and ms rest) ≡ after_or rest
+after_joined [] rest = refl
+after_joined (m ∷ ms) rest = after_joined ms rest
 
 matchers_listed : (ms : meant.Matchers) → meant.matchers (meant.listed ms) ≡ ms
 matchers_listed meant.none = refl
@@ -38,28 +38,28 @@ record IsPart (depth : ℕ) (m : meant.Matcher) (bs : List ℕ) : Type 0 where
   first : meant.Matcher
   others : List meant.Matcher
   made : all_of first others ≡ m
-  front : List ℕ
+  prefix : List ℕ
   back : List ℕ
-  begun : unit depth first front
+  begun : unit depth first prefix
   goes_on : (rest : List (Joint × meant.Matcher)) (t : List ℕ) → many (Joined depth) rest t → many (Joined depth) (joined_by_and others rest) (back ++ t)
-  text : bs ≡ front ++ back
+  text : bs ≡ prefix ++ back
 
 single : (depth : ℕ) (m : meant.Matcher) (bs : List ℕ) → unit depth m bs → IsPart depth m bs
-single depth m bs s = record { first = m; others = []; made = refl; front = bs; back = []; begun = s; goes_on = λ rest t r. r; text = sym (append-nil bs) }
+single depth m bs s = record { first = m; others = []; made = refl; prefix = bs; back = []; begun = s; goes_on = λ rest t r. r; text = sym (append-nil bs) }
 
 -- a part alone is a matcher
 part_chain : (depth : ℕ) (m : meant.Matcher) (bs : List ℕ) → IsPart depth m bs → chain (unit depth) m bs
 part_chain depth m bs p =
     let joints = joined_by_and p.others [] in
     let alone : chained (p.first, joints) ≡ m =
-    ap (λ x. any_of (all_of p.first x) (behind_or joints)) (up_to_joined p.others [] refl) ∙ ap (any_of (all_of p.first p.others)) (behind_joined p.others []) ∙ p.made in
-    ((p.first, joints), (p.front, p.back ++ [], p.begun, p.goes_on [] [] refl, p.text ∙ sym (ap (λ x. p.front ++ x) (append-nil p.back))), sym alone)
+    ap (λ x. any_of (all_of p.first x) (after_or joints)) (up_to_joined p.others [] refl) ∙ ap (any_of (all_of p.first p.others)) (after_joined p.others []) ∙ p.made in
+    ((p.first, joints), (p.prefix, p.back ++ [], p.begun, p.goes_on [] [] refl, p.text ∙ sym (ap (λ x. p.prefix ++ x) (append-nil p.back))), sym alone)
 
--- bytes that spell the parts of an `or` behind its first one
+-- bytes that spell the parts of an `or` after its first one
 record AreParts (depth : ℕ) (ms : meant.Matchers) (bs : List ℕ) : Type 0 where
   joints : List (Joint × meant.Matcher)
   ends : up_to_or joints ≡ []
-  made : behind_or joints ≡ meant.listed ms
+  made : after_or joints ≡ meant.listed ms
   spelled : many (Joined depth) joints bs
 
 no_parts : (depth : ℕ) → AreParts depth meant.none []
@@ -70,15 +70,15 @@ more_parts depth m ms bs rest p r = record {
   joints = (disjunction, p.first) ∷ joined_by_and p.others r.joints;
   ends = refl;
   made =
-      ap (λ x. all_of p.first x ∷ behind_or (joined_by_and p.others r.joints)) (up_to_joined p.others r.joints r.ends)
-      ∙ ap (λ x. x ∷ behind_or (joined_by_and p.others r.joints)) p.made
-      ∙ ap (λ x. m ∷ x) (behind_joined p.others r.joints ∙ r.made);
+      ap (λ x. all_of p.first x ∷ after_or (joined_by_and p.others r.joints)) (up_to_joined p.others r.joints r.ends)
+      ∙ ap (λ x. x ∷ after_or (joined_by_and p.others r.joints)) p.made
+      ∙ ap (λ x. m ∷ x) (after_joined p.others r.joints ∙ r.made);
   spelled = (
-    codes " or " ++ p.front,
+    codes " or " ++ p.prefix,
     p.back ++ rest,
-    inr (inl ((tt, (disjunction, p.first)), (codes " or ", p.front, refl, (p.first, p.begun, refl), refl), refl)),
+    inr (inl ((tt, (disjunction, p.first)), (codes " or ", p.prefix, refl, (p.first, p.begun, refl), refl), refl)),
     p.goes_on r.joints rest r.spelled,
-    ap (λ x. codes " or " ++ (x ++ rest)) p.text ∙ ap (λ x. codes " or " ++ x) (append_assoc p.front p.back rest),
+    ap (λ x. codes " or " ++ (x ++ rest)) p.text ∙ ap (λ x. codes " or " ++ x) (append_assoc p.prefix p.back rest),
   );
 }
 
@@ -87,11 +87,11 @@ parts_chain depth m meant.none bs rest l p r = absurd (omega arith)
 parts_chain depth m (meant.more n ms) bs rest l p r =
     let joints = joined_by_and p.others r.joints in
     let whole : chained (p.first, joints) ≡ meant.either (meant.more m (meant.more n ms)) =
-    ap (λ x. any_of (all_of p.first x) (behind_or joints)) (up_to_joined p.others r.joints r.ends)
-    ∙ ap (λ x. any_of x (behind_or joints)) p.made
-    ∙ ap (any_of m) (behind_joined p.others r.joints ∙ r.made)
+    ap (λ x. any_of (all_of p.first x) (after_or joints)) (up_to_joined p.others r.joints r.ends)
+    ∙ ap (λ x. any_of x (after_or joints)) p.made
+    ∙ ap (any_of m) (after_joined p.others r.joints ∙ r.made)
     ∙ ap (λ x. meant.either (meant.more m (meant.more n x))) (matchers_listed ms) in
-    ((p.first, joints), (p.front, p.back ++ rest, p.begun, p.goes_on r.joints rest r.spelled, ap (λ x. x ++ rest) p.text ∙ append_assoc p.front p.back rest), sym whole)
+    ((p.first, joints), (p.prefix, p.back ++ rest, p.begun, p.goes_on r.joints rest r.spelled, ap (λ x. x ++ rest) p.text ∙ append_assoc p.prefix p.back rest), sym whole)
 
 test_in : (test : Test) (v : Tree) (t : List ℕ) → value 64 v t → words tested test_words (test, v) (spelled_test test ++ t)
 test_in Eq v t s = inl ((tt, (Eq, v)), (codes " = ", t, refl, (v, s, refl), refl), refl)
@@ -140,7 +140,7 @@ abbrev AreWritten : meant.Matchers → Type 0
 AreWritten meant.none = Unit {0}
 AreWritten (meant.more m ms) = IsWritten m × AreWritten ms
 
--- the parts of an `and` behind its first one
+-- the parts of an `and` after its first one
 units_on : (ms : meant.Matchers) → AreWritten ms → (depth : ℕ) → units_nesting ms ≤ depth → (rest : List (Joint × meant.Matcher)) (t : List ℕ) → many (Joined depth) rest t → many (Joined depth) (joined_by_and (meant.listed ms) rest) (spelled_other_units ms ++ t)
 units_on meant.none w depth l rest t s = s
 units_on (meant.more m ms) w depth l rest t s =
@@ -159,14 +159,14 @@ both_part (meant.more m (meant.more n ms)) two w depth l = record {
   first = m;
   others = meant.listed (meant.more n ms);
   made = ap (λ x. meant.both (meant.more m (meant.more n x))) (matchers_listed ms);
-  front = enclosed_if (is_joined m) (spelled_matcher m);
+  prefix = enclosed_if (is_joined m) (spelled_matcher m);
   back = spelled_other_units (meant.more n ms);
   begun = w.0.0 depth (omega arith);
   goes_on = units_on (meant.more n ms) w.1 depth (omega arith);
   text = refl;
 }
 
--- the parts of an `or` behind its first one
+-- the parts of an `or` after its first one
 choices_on : (ms : meant.Matchers) → AreWritten ms → (depth : ℕ) → choices_nesting ms ≤ depth → AreParts depth ms (spelled_other_choices ms)
 choices_on meant.none w depth l = no_parts depth
 choices_on (meant.more m ms) w depth l =

@@ -8,20 +8,21 @@ use Rattle.std.proofs.lemmas.Bool.Decides.{nat_tests}
 use Rattle.std.proofs.lemmas.Fmt.{decimal_digit, decimal_step}
 use Rattle.std.proofs.lemmas.Grind.{flat_map-append}
 use Rattle.spec_value.specs.Tree.{Tree, num, text, items, Trees, none, more, trees, list, nesting, trees_nesting, list-trees, trees-list}
-use Rattle.spec_grammar.specs.Grammar.{optional, after, many, listed}
-use Rattle.spec_texts.specs.Value.{hex_digit, spelled_byte, spelled_value, spelled_elements, spelled_others, spelled_list}
+use Rattle.spec_syntax.specs.Grammar.{optional, after, many, listed}
+use Rattle.spec_syntax.specs.ValueText.{hex_digit, spelled_byte, spelled_value, spelled_elements, spelled_others, spelled_list}
 use Rattle.spec_syntax.specs.Number.{between, is_digit, longer, positive, natural, number}
-use Rattle.spec_syntax.specs.Text.{continued, is_lead, behind_lead, plain, is_hex, hex_value, second_hex, hex_byte, escape, char, joined, texts}
+use Rattle.spec_syntax.specs.Text.{continued, is_lead, after_lead, plain, is_hex, hex_value, second_hex, hex_byte, escape, char, joined, texts}
 use Rattle.spec_syntax.specs.Value.{bracketed, list_of, leaf, value, any_value}
 use Rattle.spec_syntax.specs.Proper.{IsProper, AreProper}
 use Rattle.spec_syntax.proofs.Canonical.{spelled, plain_is, control_byte}
 use Rattle.spec_syntax.proofs.Utf8.{one, two, three, four}
-use Rattle.spec_grammar.specs.Language.{Spell}
-use Rattle.spec_grammar.specs.Reader.{Verdict, read, fault, whole}
-use Rattle.spec_grammar.proofs.Wholes.{IsVerdict}
+use Rattle.spec_syntax.specs.Language.{Spell}
+use Rattle.spec_syntax.specs.Reader.{Verdict, read, fault, whole}
+use Rattle.spec_syntax.proofs.Wholes.{IsVerdict}
 use Rattle.spec_syntax.specs.ValueReader.{read_nested}
 use Rattle.spec_syntax.proofs.Verdicts.{value_verdict}
 use lib.Utf8.{scalar, scalars, encode, encodes}
+use Rattle.spec_basics.proofs.Booleans.{and_parts}
 
 -- one digit more at the end
 longer_end : (top a n : ℕ) (ds : List ℕ) (d : ℕ) → longer top a n ds → is_digit d ≡ true → n * 10 + (d - 48) ≤ top → longer top a (n * 10 + (d - 48)) (ds ++ d ∷ [])
@@ -43,11 +44,11 @@ positive_decimal (suc most) top n h l m t = elim (cases_lt n 10) as (λ _. posit
       subst (positive top n) (sym one) ((48 + n, n), (first_of n l small, [], (let e : n ≡ (48 + n) - 48 = omega arith in e), refl), refl)
   | inr great ↦
       let more : decimal n ≡ decimal (n / 10) ++ (48 + n % 10) ∷ [] = decimal_step n great (omega arith) in
-      let front : positive top (n / 10) (decimal (n / 10)) = positive_decimal most top (n / 10) (omega arith) (omega arith) (omega arith) t in
+      let prefix : positive top (n / 10) (decimal (n / 10)) = positive_decimal most top (n / 10) (omega arith) (omega arith) (omega arith) t in
       let last : is_digit (48 + n % 10) ≡ true = digit_of (n % 10) (omega arith) in
       let whole : (n / 10) * 10 + ((48 + n % 10) - 48) ≡ n = omega arith in
       subst (λ x. positive top x (decimal n)) whole (subst (positive top ((n / 10) * 10 + ((48 + n % 10) - 48))) (sym more)
-      (with_last top (n / 10) (48 + n % 10) (decimal (n / 10)) front last (omega arith)))
+      (with_last top (n / 10) (48 + n % 10) (decimal (n / 10)) prefix last (omega arith)))
 ]
   where
     with_last : (top n d : ℕ) (t : List ℕ) → positive top n t → is_digit d ≡ true → n * 10 + (d - 48) ≤ top → positive top (n * 10 + (d - 48)) (t ++ d ∷ [])
@@ -76,7 +77,7 @@ continued_of [] ys h = (tt, h, h)
 continued_of (r ∷ ranges) [] h = absurd h
 continued_of (r ∷ ranges) (y ∷ ys) h = ((y, ys), (y ∷ [], ys, (h.0, refl), continued_of ranges ys h.1, refl), refl)
 
-plain_of : (b : ℕ) (ys : List ℕ) (ranges : List (ℕ × ℕ)) → is_lead b ≡ true → behind_lead b ≡ ranges → InRanges ranges ys → plain (b ∷ ys) (b ∷ ys)
+plain_of : (b : ℕ) (ys : List ℕ) (ranges : List (ℕ × ℕ)) → is_lead b ≡ true → after_lead b ≡ ranges → InRanges ranges ys → plain (b ∷ ys) (b ∷ ys)
 plain_of b ys ranges e is h = ((b, ys), (e, ys, subst (λ r. continued r ys ys) (sym is) (continued_of ranges ys h), refl), refl)
 
 char_of : (bs : List ℕ) → plain bs bs → char bs (spelled bs)
@@ -88,13 +89,13 @@ within low high b l m = grind (arith, nat_tests)
 high_lead : (b : ℕ) → 194 ≤ b → b ≤ 244 → is_lead b ≡ true
 high_lead b l m = grind (arith, nat_tests)
 
-lead_two : (b : ℕ) → 128 ≤ b → b ≤ 223 → behind_lead b ≡ (128, 191) ∷ []
+lead_two : (b : ℕ) → 128 ≤ b → b ≤ 223 → after_lead b ≡ (128, 191) ∷ []
 lead_two b l m = grind (arith, nat_tests)
 
-lead_three : (b : ℕ) → 225 ≤ b → b ≤ 239 → (b ≡ 237 → ⊥) → behind_lead b ≡ (128, 191) ∷ (128, 191) ∷ []
+lead_three : (b : ℕ) → 225 ≤ b → b ≤ 239 → (b ≡ 237 → ⊥) → after_lead b ≡ (128, 191) ∷ (128, 191) ∷ []
 lead_three b l m ne = grind (arith, nat_tests)
 
-lead_four : (b : ℕ) → 241 ≤ b → b ≤ 243 → behind_lead b ≡ (128, 191) ∷ (128, 191) ∷ (128, 191) ∷ []
+lead_four : (b : ℕ) → 241 ≤ b → b ≤ 243 → after_lead b ≡ (128, 191) ∷ (128, 191) ∷ (128, 191) ∷ []
 lead_four b l m = grind (arith, nat_tests)
 
 two_char : (q r : ℕ) → 2 ≤ q → q < 32 → r < 64 → plain ((192 + q) ∷ (128 + r) ∷ []) ((192 + q) ∷ (128 + r) ∷ [])
@@ -106,11 +107,11 @@ three_char p q r h g k l scalar =
     let rest = (128 + q) ∷ (128 + r) ∷ [] in
     let lead : is_lead b ≡ true = high_lead b (omega arith) (omega arith) in
     elim (cases_eq p 0) as (λ _. plain (b ∷ rest) (b ∷ rest)) [
-      | inl e ↦ plain_of b rest ((160, 191) ∷ (128, 191) ∷ []) lead (ap (λ x. behind_lead (224 + x)) e) (within 160 191 (128 + q) (omega arith) (omega arith), (within 128 191 (128 + r) (omega arith) (omega arith), refl))
+      | inl e ↦ plain_of b rest ((160, 191) ∷ (128, 191) ∷ []) lead (ap (λ x. after_lead (224 + x)) e) (within 160 191 (128 + q) (omega arith) (omega arith), (within 128 191 (128 + r) (omega arith) (omega arith), refl))
       | inr some ↦ elim (cases_eq p 13) as (λ _. plain (b ∷ rest) (b ∷ rest)) [
         | inl e ↦
             let small : q < 32 = elim scalar as (λ _. q < 32) [ inl u ↦ omega arith | inr u ↦ absurd (omega arith) ] in
-            plain_of b rest ((128, 159) ∷ (128, 191) ∷ []) lead (ap (λ x. behind_lead (224 + x)) e) (within 128 159 (128 + q) (omega arith) (omega arith), (within 128 191 (128 + r) (omega arith) (omega arith), refl))
+            plain_of b rest ((128, 159) ∷ (128, 191) ∷ []) lead (ap (λ x. after_lead (224 + x)) e) (within 128 159 (128 + q) (omega arith) (omega arith), (within 128 191 (128 + r) (omega arith) (omega arith), refl))
         | inr other ↦
             plain_of b rest ((128, 191) ∷ (128, 191) ∷ []) lead (lead_three b (omega arith) (omega arith) (λ e. other (omega arith))) (within 128 191 (128 + q) (omega arith) (omega arith), (within 128 191 (128 + r) (omega arith) (omega arith), refl))
       ]
@@ -123,9 +124,9 @@ four_char o p q r n h g k l most =
     let lead : is_lead b ≡ true = high_lead b (omega arith) (omega arith) in
     let last : InRanges ((128, 191) ∷ (128, 191) ∷ []) ((128 + q) ∷ (128 + r) ∷ []) = (within 128 191 (128 + q) (omega arith) (omega arith), (within 128 191 (128 + r) (omega arith) (omega arith), refl)) in
     elim (cases_eq o 0) as (λ _. plain (b ∷ rest) (b ∷ rest)) [
-      | inl e ↦ plain_of b rest ((144, 191) ∷ (128, 191) ∷ (128, 191) ∷ []) lead (ap (λ x. behind_lead (240 + x)) e) (within 144 191 (128 + p) (omega arith) (omega arith), last)
+      | inl e ↦ plain_of b rest ((144, 191) ∷ (128, 191) ∷ (128, 191) ∷ []) lead (ap (λ x. after_lead (240 + x)) e) (within 144 191 (128 + p) (omega arith) (omega arith), last)
       | inr some ↦ elim (cases_eq o 4) as (λ _. plain (b ∷ rest) (b ∷ rest)) [
-        | inl e ↦ plain_of b rest ((128, 143) ∷ (128, 191) ∷ (128, 191) ∷ []) lead (ap (λ x. behind_lead (240 + x)) e) (within 128 143 (128 + p) (omega arith) (omega arith), last)
+        | inl e ↦ plain_of b rest ((128, 143) ∷ (128, 191) ∷ (128, 191) ∷ []) lead (ap (λ x. after_lead (240 + x)) e) (within 128 143 (128 + p) (omega arith) (omega arith), last)
         | inr other ↦ plain_of b rest ((128, 191) ∷ (128, 191) ∷ (128, 191) ∷ []) lead (lead_four b (omega arith) (omega arith)) (within 128 191 (128 + p) (omega arith) (omega arith), last)
       ]
     ]
@@ -162,7 +163,7 @@ hex_of c h f g =
 low_byte : (c : ℕ) → is_lead c ≡ false → c < 128 → (c ≡ 34 → ⊥) → (c ≡ 92 → ⊥) → c < 32
 low_byte c e l f g = grind (arith, nat_tests)
 
-lead_one : (c : ℕ) → c < 128 → behind_lead c ≡ []
+lead_one : (c : ℕ) → c < 128 → after_lead c ≡ []
 lead_one c l = grind (arith, nat_tests)
 
 abbrev one_byte : ℕ → List ℕ
@@ -245,10 +246,6 @@ char_scalar c h = elim (cases_lt c 128) as (λ _. IsSpelled (encode c)) [
 -- the characters of a text
 abbrev CharsOf : List ℕ → Type 0
 CharsOf cs = (chars : List (List ℕ)) × many char chars (spelled (joined chars)) × (joined chars ≡ encodes cs)
-
-and_parts : (a b : Bool) → (a && b) ≡ true → (a ≡ true) × (b ≡ true)
-and_parts true b h = (refl, h)
-and_parts false b h = absurd (false≢true h)
 
 chars_of : (cs : List ℕ) → scalars cs ≡ true → CharsOf cs
 chars_of [] h = ([], refl, refl)

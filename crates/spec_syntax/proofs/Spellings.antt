@@ -21,7 +21,7 @@ digit_range d h = (grind (arith, nat_tests), grind (arith, nat_tests))
 first_range : (d : ℕ) → between 49 57 d ≡ true → (49 ≤ d) × (d ≤ 57)
 first_range d h = (grind (arith, nat_tests), grind (arith, nat_tests))
 
--- the digits behind a number are digits, and with them it is what they come to
+-- the digits after a number are digits, and with them it is what they come to
 longer_digits : (top a n : ℕ) (ds : List ℕ) → longer top a n ds → AllDigits 10 ds × (digits_value_after 10 a ds ≡ n)
 longer_digits top a n [] s = (tt, sym s)
 longer_digits top a n (d ∷ ds) s =

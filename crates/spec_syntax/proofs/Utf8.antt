@@ -6,14 +6,16 @@ use Rattle.std.proofs.lemmas.Str.{IsUtf8-append, IsUtf8-encode, IsUtf8-nil}
 use Rattle.std.proofs.lemmas.Bool.{cases_Bool, cases_lt, false≢true}
 use Rattle.std.proofs.lemmas.Bool.Decides.{nat_tests}
 use lib.Utf8.{encode}
-use Rattle.spec_grammar.specs.Grammar.{closed, many}
-use Rattle.spec_grammar.specs.Reader.{found, read_word}
-use Rattle.spec_grammar.proofs.Reading.{Tails, Finds, IsStep}
+use Rattle.spec_syntax.specs.Grammar.{closed, many}
+use Rattle.spec_syntax.specs.Reader.{found, read_word}
+use Rattle.spec_syntax.proofs.ReadSteps.{Tails, Finds, IsStep}
 use Rattle.spec_syntax.specs.Number.{between}
-use Rattle.spec_syntax.specs.Text.{continued, is_lead, behind_lead, plain, is_hex, hex_value, hex_byte, is_short, short_for, escape, char, joined, texts}
+use Rattle.spec_syntax.specs.Text.{continued, is_lead, after_lead, plain, is_hex, hex_value, hex_byte, is_short, short_for, escape, char, joined, texts}
 use Rattle.spec_syntax.specs.ValueReader.{read_chars, read_text}
 use Rattle.spec_syntax.proofs.Texts.{text_reads}
 use Rattle.spec_syntax.proofs.Enclosed.{text_found}
+use Rattle.spec_basics.proofs.Booleans.{and_left}
+use Rattle.spec_basics.proofs.Numbers.{same_number}
 
 pub one : (c : ℕ) → c < 128 → encode c ≡ c ∷ []
 unfolding encode
@@ -108,26 +110,26 @@ four_utf8 b x y z h g k l m n o p least most =
     let j : 128 + (z - 128) ≡ z = omega arith in
     encoded (of_four b x y z) (b ∷ x ∷ y ∷ z ∷ []) (four (b - 240) (x - 128) (y - 128) (z - 128) (omega arith) (omega arith) (omega arith) (omega arith) least ∙ cc) (high (of_four b x y z) (omega arith) most)
 
--- one, two or three bytes behind the first
-one_behind : (b : ℕ) (ys : List ℕ) → 194 ≤ b → b < 224 → Within ((128, 191) ∷ []) ys → IsUtf8 (b ∷ ys)
-one_behind b [] h g w = absurd w
-one_behind b (x ∷ []) h g w = two_utf8 b x h g w.0 w.1
-one_behind b (x ∷ y ∷ ys) h g w = let e = w.2 in cc
+-- one, two or three bytes after the first
+one_after : (b : ℕ) (ys : List ℕ) → 194 ≤ b → b < 224 → Within ((128, 191) ∷ []) ys → IsUtf8 (b ∷ ys)
+one_after b [] h g w = absurd w
+one_after b (x ∷ []) h g w = two_utf8 b x h g w.0 w.1
+one_after b (x ∷ y ∷ ys) h g w = let e = w.2 in cc
 
-two_behind : (b : ℕ) (range : ℕ × ℕ) (ys : List ℕ) → 224 ≤ b → b < 240 → 128 ≤ range.0 → range.1 ≤ 191 → ((x y : ℕ) → range.0 ≤ x → x ≤ range.1 → 128 ≤ y → y ≤ 191 → 2048 ≤ of_three b x y) → ((x y : ℕ) → range.0 ≤ x → x ≤ range.1 → 128 ≤ y → y ≤ 191 → IsScalar (of_three b x y)) → Within (range ∷ (128, 191) ∷ []) ys → IsUtf8 (b ∷ ys)
-two_behind b range [] h g k l least scalar w = absurd w
-two_behind b range (x ∷ []) h g k l least scalar w = absurd w.2
-two_behind b range (x ∷ y ∷ []) h g k l least scalar w = three_utf8 b x y h g (omega (arith, w.0)) (omega (arith, w.1)) w.2.0 w.2.1 (least x y w.0 w.1 w.2.0 w.2.1) (scalar x y w.0 w.1 w.2.0 w.2.1)
-two_behind b range (x ∷ y ∷ z ∷ ys) h g k l least scalar w = let e = w.2.2 in cc
+two_after : (b : ℕ) (range : ℕ × ℕ) (ys : List ℕ) → 224 ≤ b → b < 240 → 128 ≤ range.0 → range.1 ≤ 191 → ((x y : ℕ) → range.0 ≤ x → x ≤ range.1 → 128 ≤ y → y ≤ 191 → 2048 ≤ of_three b x y) → ((x y : ℕ) → range.0 ≤ x → x ≤ range.1 → 128 ≤ y → y ≤ 191 → IsScalar (of_three b x y)) → Within (range ∷ (128, 191) ∷ []) ys → IsUtf8 (b ∷ ys)
+two_after b range [] h g k l least scalar w = absurd w
+two_after b range (x ∷ []) h g k l least scalar w = absurd w.2
+two_after b range (x ∷ y ∷ []) h g k l least scalar w = three_utf8 b x y h g (omega (arith, w.0)) (omega (arith, w.1)) w.2.0 w.2.1 (least x y w.0 w.1 w.2.0 w.2.1) (scalar x y w.0 w.1 w.2.0 w.2.1)
+two_after b range (x ∷ y ∷ z ∷ ys) h g k l least scalar w = let e = w.2.2 in cc
 
-three_behind : (b : ℕ) (range : ℕ × ℕ) (ys : List ℕ) → 240 ≤ b → b < 245 → 128 ≤ range.0 → range.1 ≤ 191 → ((x y z : ℕ) → range.0 ≤ x → x ≤ range.1 → 128 ≤ y → y ≤ 191 → 128 ≤ z → z ≤ 191 → (65536 ≤ of_four b x y z) × (of_four b x y z < 1114112)) → Within (range ∷ (128, 191) ∷ (128, 191) ∷ []) ys → IsUtf8 (b ∷ ys)
-three_behind b range [] h g k l bounds w = absurd w
-three_behind b range (x ∷ []) h g k l bounds w = absurd w.2
-three_behind b range (x ∷ y ∷ []) h g k l bounds w = absurd w.2.2
-three_behind b range (x ∷ y ∷ z ∷ []) h g k l bounds w =
+three_after : (b : ℕ) (range : ℕ × ℕ) (ys : List ℕ) → 240 ≤ b → b < 245 → 128 ≤ range.0 → range.1 ≤ 191 → ((x y z : ℕ) → range.0 ≤ x → x ≤ range.1 → 128 ≤ y → y ≤ 191 → 128 ≤ z → z ≤ 191 → (65536 ≤ of_four b x y z) × (of_four b x y z < 1114112)) → Within (range ∷ (128, 191) ∷ (128, 191) ∷ []) ys → IsUtf8 (b ∷ ys)
+three_after b range [] h g k l bounds w = absurd w
+three_after b range (x ∷ []) h g k l bounds w = absurd w.2
+three_after b range (x ∷ y ∷ []) h g k l bounds w = absurd w.2.2
+three_after b range (x ∷ y ∷ z ∷ []) h g k l bounds w =
     let c = bounds x y z w.0 w.1 w.2.0 w.2.1 w.2.2.0 w.2.2.1 in
     four_utf8 b x y z h g (omega (arith, w.0)) (omega (arith, w.1)) w.2.0 w.2.1 w.2.2.0 w.2.2.1 c.0 c.1
-three_behind b range (x ∷ y ∷ z ∷ u ∷ ys) h g k l bounds w = let e = w.2.2.2 in cc
+three_after b range (x ∷ y ∷ z ∷ u ∷ ys) h g k l bounds w = let e = w.2.2.2 in cc
 
 -- a choice between two lists of ranges
 pick : (c : Bool) (xs zs : List (ℕ × ℕ)) (ys : List ℕ) (P : Type 0) → (c ≡ true → Within xs ys → P) → (c ≡ false → Within zs ys → P) → Within (cond c xs zs) ys → P
@@ -152,9 +154,6 @@ from_224 b = cond (eqb b 224) ((160, 191) ∷ (128, 191) ∷ []) (from_237 b)
 abbrev from_223 : ℕ → List (ℕ × ℕ)
 from_223 b = cond (leb b 223) ((128, 191) ∷ []) (from_224 b)
 
-same : (b c : ℕ) → eqb b c ≡ true → b ≡ c
-same b c h = grind (arith, nat_tests)
-
 unlike : (b c : ℕ) → eqb b c ≡ false → b ≡ c → ⊥
 unlike b c h e = false≢true (sym h ∙ eq-eqb b c e)
 
@@ -164,40 +163,40 @@ up_to b c h = grind (arith, nat_tests)
 beyond : (b c : ℕ) → leb b c ≡ false → c < b
 beyond b c h = grind (arith, nat_tests)
 
-behind_utf8_239 : (b : ℕ) (ys : List ℕ) → 224 < b → (b ≡ 237 → ⊥) → b ≤ 244 → Within (from_239 b) ys → IsUtf8 (b ∷ ys)
-behind_utf8_239 b ys l ne m w =
+after_utf8_239 : (b : ℕ) (ys : List ℕ) → 224 < b → (b ≡ 237 → ⊥) → b ≤ 244 → Within (from_239 b) ys → IsUtf8 (b ∷ ys)
+after_utf8_239 b ys l ne m w =
     pick (leb b 239) ((128, 191) ∷ (128, 191) ∷ []) (from_240 b) ys (IsUtf8 (b ∷ ys))
     (λ e v. let le : b ≤ 239 = up_to b 239 e in
     elim (cases_lt b 237) as (λ _. IsUtf8 (b ∷ ys)) [
-      | inl k ↦ two_behind b (128, 191) ys (omega arith) (omega arith) (omega arith) (omega arith) (λ x y f g h i. omega arith) (λ x y f g h i. low (of_three b x y) (omega arith)) v
-      | inr k ↦ let more : 237 < b = omega arith in two_behind b (128, 191) ys (omega arith) (omega arith) (omega arith) (omega arith) (λ x y f g h i. omega arith) (λ x y f g h i. high (of_three b x y) (omega arith) (omega arith)) v
+      | inl k ↦ two_after b (128, 191) ys (omega arith) (omega arith) (omega arith) (omega arith) (λ x y f g h i. omega arith) (λ x y f g h i. low (of_three b x y) (omega arith)) v
+      | inr k ↦ let more : 237 < b = omega arith in two_after b (128, 191) ys (omega arith) (omega arith) (omega arith) (omega arith) (λ x y f g h i. omega arith) (λ x y f g h i. high (of_three b x y) (omega arith) (omega arith)) v
     ])
     (λ e v. let gt : 239 < b = beyond b 239 e in
     pick (eqb b 240) ((144, 191) ∷ (128, 191) ∷ (128, 191) ∷ []) (from_244 b) ys (IsUtf8 (b ∷ ys))
-    (λ d u. let is : b ≡ 240 = same b 240 d in three_behind b (144, 191) ys (omega arith) (omega arith) (omega arith) (omega arith) (λ x y z f g h i j k. (omega arith, omega arith)) u)
+    (λ d u. let is : b ≡ 240 = same_number b 240 d in three_after b (144, 191) ys (omega arith) (omega arith) (omega arith) (omega arith) (λ x y z f g h i j k. (omega arith, omega arith)) u)
     (λ d u. let no = unlike b 240 d in
     pick (eqb b 244) ((128, 143) ∷ (128, 191) ∷ (128, 191) ∷ []) ((128, 191) ∷ (128, 191) ∷ (128, 191) ∷ []) ys (IsUtf8 (b ∷ ys))
-    (λ c t. let is : b ≡ 244 = same b 244 c in three_behind b (128, 143) ys (omega arith) (omega arith) (omega arith) (omega arith) (λ x y z f g h i j k. (omega arith, omega arith)) t)
-    (λ c t. let not_last = unlike b 244 c in let under : b < 244 = omega arith in let over : 240 < b = omega arith in three_behind b (128, 191) ys (omega arith) (omega arith) (omega arith) (omega arith) (λ x y z f g h i j k. (omega arith, omega arith)) t)
+    (λ c t. let is : b ≡ 244 = same_number b 244 c in three_after b (128, 143) ys (omega arith) (omega arith) (omega arith) (omega arith) (λ x y z f g h i j k. (omega arith, omega arith)) t)
+    (λ c t. let not_last = unlike b 244 c in let under : b < 244 = omega arith in let over : 240 < b = omega arith in three_after b (128, 191) ys (omega arith) (omega arith) (omega arith) (omega arith) (λ x y z f g h i j k. (omega arith, omega arith)) t)
     u)
     v)
     w
 
-behind_utf8 : (b : ℕ) (ys : List ℕ) → (b ≤ 127) ⊎ ((194 ≤ b) × (b ≤ 244)) → Within (behind_lead b) ys → IsUtf8 (b ∷ ys)
-behind_utf8 b ys r w =
+after_utf8 : (b : ℕ) (ys : List ℕ) → (b ≤ 127) ⊎ ((194 ≤ b) × (b ≤ 244)) → Within (after_lead b) ys → IsUtf8 (b ∷ ys)
+after_utf8 b ys r w =
     pick (leb b 127) [] (from_223 b) ys (IsUtf8 (b ∷ ys))
     (λ e v. let le : b ≤ 127 = up_to b 127 e in subst (λ zs. IsUtf8 (b ∷ zs)) (sym v) (ascii_utf8 b (omega arith)))
     (λ e v. let gt : 127 < b = beyond b 127 e in
     let range : (194 ≤ b) × (b ≤ 244) = elim r as (λ _. (194 ≤ b) × (b ≤ 244)) [ inl h ↦ absurd (omega arith) | inr h ↦ h ] in
     pick (leb b 223) ((128, 191) ∷ []) (from_224 b) ys (IsUtf8 (b ∷ ys))
-    (λ d u. let le : b ≤ 223 = up_to b 223 d in one_behind b ys range.0 (omega arith) u)
+    (λ d u. let le : b ≤ 223 = up_to b 223 d in one_after b ys range.0 (omega arith) u)
     (λ d u. let over : 223 < b = beyond b 223 d in
     pick (eqb b 224) ((160, 191) ∷ (128, 191) ∷ []) (from_237 b) ys (IsUtf8 (b ∷ ys))
-    (λ c t. let is : b ≡ 224 = same b 224 c in two_behind b (160, 191) ys (omega arith) (omega arith) (omega arith) (omega arith) (λ x y f g h i. omega arith) (λ x y f g h i. low (of_three b x y) (omega arith)) t)
+    (λ c t. let is : b ≡ 224 = same_number b 224 c in two_after b (160, 191) ys (omega arith) (omega arith) (omega arith) (omega arith) (λ x y f g h i. omega arith) (λ x y f g h i. low (of_three b x y) (omega arith)) t)
     (λ c t. let no = unlike b 224 c in
     pick (eqb b 237) ((128, 159) ∷ (128, 191) ∷ []) (from_239 b) ys (IsUtf8 (b ∷ ys))
-    (λ a s. let is : b ≡ 237 = same b 237 a in two_behind b (128, 159) ys (omega arith) (omega arith) (omega arith) (omega arith) (λ x y f g h i. omega arith) (λ x y f g h i. low (of_three b x y) (omega arith)) s)
-    (λ a s. behind_utf8_239 b ys (omega (arith, over)) (unlike b 237 a) range.1 s)
+    (λ a s. let is : b ≡ 237 = same_number b 237 a in two_after b (128, 159) ys (omega arith) (omega arith) (omega arith) (omega arith) (λ x y f g h i. omega arith) (λ x y f g h i. low (of_three b x y) (omega arith)) s)
+    (λ a s. after_utf8_239 b ys (omega (arith, over)) (unlike b 237 a) range.1 s)
     t)
     u)
     v)
@@ -210,14 +209,10 @@ lead_range b h = elim (cases_Bool (between 32 127 b)) as (λ _. (b ≤ 127) ⊎ 
 ]
 
 plain_utf8 : (bs t : List ℕ) → plain bs t → IsUtf8 bs
-plain_utf8 bs t s = subst IsUtf8 (sym s.2) (behind_utf8 s.0.0 s.0.1 (lead_range s.0.0 s.1.0) (within (behind_lead s.0.0) s.0.1 s.1.1 s.1.2))
+plain_utf8 bs t s = subst IsUtf8 (sym s.2) (after_utf8 s.0.0 s.0.1 (lead_range s.0.0 s.1.0) (within (after_lead s.0.0) s.0.1 s.1.1 s.1.2))
 
 hex_below : (d : ℕ) → is_hex d ≡ true → hex_value d < 16
 hex_below d h = grind (arith, nat_tests)
-
-and_left : (a b : Bool) → (a && b) ≡ true → a ≡ true
-and_left true b h = refl
-and_left false b h = absurd (false≢true h)
 
 hex_byte_below : (n : ℕ) (t : List ℕ) → hex_byte n t → n < 128
 hex_byte_below n t s =
@@ -258,7 +253,7 @@ anything : Tails
 anything v = Unit {0}
 
 found_utf8 : (bs chars rest : List ℕ) → Finds texts anything bs chars rest → IsUtf8 chars
-found_utf8 bs chars rest f = texts_utf8 chars f.front f.spelled
+found_utf8 bs chars rest f = texts_utf8 chars f.prefix f.spelled
 
 read_utf8 : (bs chars rest : List ℕ) → read_text bs ≡ found chars rest → IsUtf8 chars
 unfolding anything

@@ -1,13 +1,13 @@
 -- The readers of values read their grammars.
 use Rattle.std.proofs.Common.{◌≡◌, ℕ, zero, suc, pos, ◌+◌, ◌-◌, ◌≤◌, max, false, eqb, List, [], ◌∷◌, ◌++◌, length, refl, sym, subst, inl, inr, arith, codes}
 use Rattle.spec_value.specs.Tree.{Tree, num, text, items_of}
-use Rattle.spec_grammar.specs.Grammar.{Grammar, mapped, either, after, closed, optional, many, listed}
-use Rattle.spec_grammar.specs.Reader.{stopped, Reader, made_of}
-use Rattle.spec_grammar.proofs.Missed.{missed_all}
-use Rattle.spec_grammar.proofs.Reading.{Tails, IsStep, Stops, Reads, Has, HasTail}
-use Rattle.spec_grammar.proofs.Sequences.{made_of_reads, alike_step}
-use Rattle.spec_grammar.proofs.Choices.{NoneStarts, or_else_step, or_else_reads}
-use Rattle.spec_grammar.proofs.Repetitions.{Begun, Unbegun, begun_word, starts_begun}
+use Rattle.spec_syntax.specs.Grammar.{Grammar, mapped, either, after, closed, optional, many, listed}
+use Rattle.spec_syntax.specs.Reader.{stopped, Reader, made_of}
+use Rattle.spec_syntax.proofs.Missed.{missed_all}
+use Rattle.spec_syntax.proofs.ReadSteps.{Tails, IsStep, Stops, Reads, Has, HasTail}
+use Rattle.spec_syntax.proofs.Sequences.{made_of_reads, alike_step}
+use Rattle.spec_syntax.proofs.Choices.{NoneStarts, or_else_step, or_else_reads}
+use Rattle.spec_syntax.proofs.Repetitions.{Begun, Unbegun, begun_word, starts_begun}
 use Rattle.spec_syntax.specs.Number.{between, is_digit, number}
 use Rattle.spec_syntax.specs.Text.{texts}
 use Rattle.spec_syntax.specs.Value.{bracketed, list_of, leaf, value, any_value}

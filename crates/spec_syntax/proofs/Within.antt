@@ -4,12 +4,12 @@ use Rattle.std.specs.Prelude.{decimal}
 use Rattle.std.specs.List.{AllByRecursion}
 use Rattle.std.specs.Fmt.{signed_decimal}
 use Rattle.spec_value.specs.Tree.{text}
-use Rattle.spec_grammar.specs.Grammar.{Grammar, after, closed, apart, optional, many, listed, upto}
+use Rattle.spec_syntax.specs.Grammar.{Grammar, after, closed, apart, optional, many, listed, upto}
 use Rattle.spec_lang.specs.declared.Bounds.{Bounds}
 use Rattle.spec_lang.specs.declared.Bounds.TheVariants.{Head, Tail, Middle}
 use Rattle.spec_lang.specs.Sorting.{Key}
 use Rattle.spec_lang.specs.Func as meant
-use Rattle.spec_texts.specs.Value.{spelled_value}
+use Rattle.spec_syntax.specs.ValueText.{spelled_value}
 use Rattle.spec_syntax.specs.Path.{path_index, path, key, order}
 use Rattle.spec_syntax.specs.Bounds.{two_numbers, bounds}
 use Rattle.spec_syntax.specs.Func.{flat_func, func}

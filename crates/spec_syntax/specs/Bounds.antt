@@ -1,6 +1,6 @@
 -- The grammar of the bounds of a range.
 use Rattle.std.specs.Prelude.{ℕ, List, [], ◌∷◌, codes}
-use Rattle.spec_grammar.specs.Grammar.{Grammar, mapped, apart, words}
+use Rattle.spec_syntax.specs.Grammar.{Grammar, mapped, apart, words}
 use Rattle.spec_lang.specs.declared.Bounds.{Bounds}
 use Rattle.spec_lang.specs.declared.Bounds.TheVariants.{Head, Tail, Middle}
 use Rattle.spec_syntax.specs.Number.{natural}

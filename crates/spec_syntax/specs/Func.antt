@@ -1,6 +1,6 @@
 -- The grammar of functions.
 use Rattle.std.specs.Prelude.{ℕ, zero, suc, List, codes}
-use Rattle.spec_grammar.specs.Grammar.{Grammar, mapped, either, after, closed, apart}
+use Rattle.spec_syntax.specs.Grammar.{Grammar, mapped, either, after, closed, apart}
 use Rattle.spec_lang.specs.Func.{Func, at_path, number, bytes, count, total, sum, list, funcs}
 use Rattle.spec_syntax.specs.Number as numbers
 use Rattle.spec_syntax.specs.Text.{texts}
@@ -13,15 +13,21 @@ counting = mapped count (after (codes "count(") (closed path (codes ")")))
 
 -- "sum(" path "," path ")"
 abbrev pub totalling : Grammar Func
-totalling = mapped (λ ab. total ab.0 ab.1) (after (codes "sum(") (closed (apart path (codes ",") path) (codes ")")))
+totalling =
+    mapped (λ ab. total ab.0 ab.1)
+    (after (codes "sum(") (closed (apart path (codes ",") path) (codes ")")))
 
 -- a function with no function in it
 abbrev pub flat_func : Grammar Func
-flat_func = either (mapped at_path path) (either (mapped bytes texts) (either counting (either totalling (mapped number numbers.number))))
+flat_func =
+    either (mapped at_path path)
+    (either (mapped bytes texts)
+    (either counting (either totalling (mapped number numbers.number))))
 
 -- "add(" func "," func ")"
 abbrev pub adding : Grammar Func → Grammar Func
-adding V = mapped (λ ab. sum ab.0 ab.1) (after (codes "add(") (closed (apart V (codes ",") V) (codes ")")))
+adding V =
+    mapped (λ ab. sum ab.0 ab.1) (after (codes "add(") (closed (apart V (codes ",") V) (codes ")")))
 
 abbrev pub list_func : List Func → Func
 list_func fs = list (funcs fs)

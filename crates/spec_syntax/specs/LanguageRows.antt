@@ -1,7 +1,7 @@
 -- Worked rows of the readers of the language, each by computing.
 use Rattle.std.specs.Prelude.{◌≡◌, pos, true, false, [], ◌∷◌, refl, codes}
 use Rattle.spec_value.specs.Tree.{num}
-use Rattle.spec_grammar.specs.Reader.{read, fault, whole}
+use Rattle.spec_syntax.specs.Reader.{read, fault, whole}
 use Rattle.spec_lang.specs.declared.Bounds.TheVariants.{Tail}
 use Rattle.spec_lang.specs.declared.Test.TheVariants.{Eq, Lt}
 use Rattle.spec_lang.specs.Func.{at_path, total, sum, list, funcs}
@@ -21,7 +21,8 @@ long_index = refl
 seventeen_steps : whole (read_path (codes ".0.1.2.3.4.5.6.7.8.9.0.1.2.3.4.5.6")) ≡ fault 2
 seventeen_steps = refl
 
-an_order : whole (read_order (codes "desc .2, .")) ≡ read (record { path = 2 ∷ []; down = true } ∷ record { path = []; down = false } ∷ [])
+an_order : whole (read_order (codes "desc .2, ."))
+    ≡ read (record { path = 2 ∷ []; down = true } ∷ record { path = []; down = false } ∷ [])
 an_order = refl
 
 some_bounds : whole (read_bounds (codes "tail 3 0")) ≡ read (Tail 3 0)
@@ -30,12 +31,17 @@ some_bounds = refl
 half_bounds : whole (read_bounds (codes "mid 3")) ≡ fault 2
 half_bounds = refl
 
-a_func : whole (read_func 8 (codes "[add(.0,sum(.,.1)),.]")) ≡ read (list (funcs (sum (at_path (0 ∷ [])) (total [] (1 ∷ [])) ∷ at_path [] ∷ [])))
+a_func : whole (read_func 8 (codes "[add(.0,sum(.,.1)),.]"))
+    ≡ read (list (funcs (sum (at_path (0 ∷ [])) (total [] (1 ∷ [])) ∷ at_path [] ∷ [])))
 unfolding read_func
 a_func = refl
 
 -- " and " binds closer, and parentheses that aren't needed are not kept
-a_matcher : whole (read_matcher (codes ". = 1 or not (.0 < 2) and all")) ≡ read (either (matchers (is [] Eq (num (pos 1)) ∷ both (matchers (negation (is (0 ∷ []) Lt (num (pos 2))) ∷ all ∷ [])) ∷ [])))
+a_matcher : whole (read_matcher (codes ". = 1 or not (.0 < 2) and all"))
+    ≡ read (either
+    (matchers
+    (is [] Eq (num (pos 1)) ∷ both (matchers (negation (is (0 ∷ []) Lt (num (pos 2))) ∷ all ∷ []))
+    ∷ [])))
 unfolding read_unit read_nested
 a_matcher = refl
 
@@ -50,15 +56,25 @@ unfolding read_unit
 ninth_not = refl
 
 -- parentheses stand where they are needed, and nest one deeper, as each `not` does
-needed : spelled_matcher (both (matchers (either (matchers (all ∷ nothing ∷ [])) ∷ negation (both (matchers (all ∷ all ∷ []))) ∷ []))) ≡ codes "(all or none) and not (all and all)"
+needed : spelled_matcher
+    (both (matchers
+    (either (matchers (all ∷ nothing ∷ [])) ∷ negation (both (matchers (all ∷ all ∷ []))) ∷ [])))
+    ≡ codes "(all or none) and not (all and all)"
 needed = refl
 
-its_nesting : matcher_nesting (both (matchers (either (matchers (all ∷ nothing ∷ [])) ∷ negation (both (matchers (all ∷ all ∷ []))) ∷ []))) ≡ 2
+its_nesting : matcher_nesting
+    (both (matchers
+    (either (matchers (all ∷ nothing ∷ [])) ∷ negation (both (matchers (all ∷ all ∷ []))) ∷ [])))
+    ≡ 2
 its_nesting = refl
 
-an_or_in_an_or : spelled_matcher (either (matchers (all ∷ either (matchers (all ∷ nothing ∷ [])) ∷ []))) ≡ codes "all or (all or none)"
+an_or_in_an_or : spelled_matcher
+    (either (matchers (all ∷ either (matchers (all ∷ nothing ∷ [])) ∷ [])))
+    ≡ codes "all or (all or none)"
 an_or_in_an_or = refl
 
 -- and nowhere else
-none_needed : spelled_matcher (either (matchers (both (matchers (all ∷ nothing ∷ [])) ∷ negation (negation all) ∷ []))) ≡ codes "all and none or not not all"
+none_needed : spelled_matcher
+    (either (matchers (both (matchers (all ∷ nothing ∷ [])) ∷ negation (negation all) ∷ [])))
+    ≡ codes "all and none or not not all"
 none_needed = refl

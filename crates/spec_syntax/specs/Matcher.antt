@@ -1,7 +1,7 @@
 -- The grammar of matchers.
 use Rattle.std.specs.Prelude.{ℕ, zero, suc, List, [], ◌∷◌, codes}
 use Rattle.spec_value.specs.Tree.{Tree}
-use Rattle.spec_grammar.specs.Grammar.{Grammar, empty, mapped, both, either, closed, many, words}
+use Rattle.spec_syntax.specs.Grammar.{Grammar, empty, mapped, both, either, closed, many, words}
 use Rattle.spec_lang.specs.declared.Test.{Test}
 use Rattle.spec_lang.specs.declared.Test.TheVariants.{Eq, Ne, Lt, Le, Gt, Ge}
 use Rattle.spec_lang.specs.Matcher as meant
@@ -28,15 +28,15 @@ up_to_or [] = []
 up_to_or ((conjunction, m) ∷ rest) = m ∷ up_to_or rest
 up_to_or ((disjunction, m) ∷ rest) = []
 
--- what stands between two " or ", behind the first of them
-abbrev pub behind_or : List (Joint × meant.Matcher) → List meant.Matcher
-behind_or [] = []
-behind_or ((conjunction, m) ∷ rest) = behind_or rest
-behind_or ((disjunction, m) ∷ rest) = all_of m (up_to_or rest) ∷ behind_or rest
+-- what stands between two " or ", after the first of them
+abbrev pub after_or : List (Joint × meant.Matcher) → List meant.Matcher
+after_or [] = []
+after_or ((conjunction, m) ∷ rest) = after_or rest
+after_or ((disjunction, m) ∷ rest) = all_of m (up_to_or rest) ∷ after_or rest
 
 -- " and " binds closer than " or "
 abbrev pub chained : meant.Matcher × List (Joint × meant.Matcher) → meant.Matcher
-chained c = any_of (all_of c.0 (up_to_or c.1)) (behind_or c.1)
+chained c = any_of (all_of c.0 (up_to_or c.1)) (after_or c.1)
 
 abbrev pub joint_words : List (List ℕ × Joint)
 joint_words = (codes " and ", conjunction) ∷ (codes " or ", disjunction) ∷ []
@@ -49,7 +49,9 @@ abbrev pub chain : Grammar meant.Matcher → Grammar meant.Matcher
 chain U = mapped chained (both U (many (words (joined_unit U) joint_words)))
 
 abbrev pub test_words : List (List ℕ × Test)
-test_words = (codes " = ", Eq) ∷ (codes " != ", Ne) ∷ (codes " < ", Lt) ∷ (codes " <= ", Le) ∷ (codes " > ", Gt) ∷ (codes " >= ", Ge) ∷ []
+test_words =
+    (codes " = ", Eq) ∷ (codes " != ", Ne) ∷ (codes " < ", Lt) ∷ (codes " <= ", Le)
+    ∷ (codes " > ", Gt) ∷ (codes " >= ", Ge) ∷ []
 
 abbrev pub tested : Test → Grammar (Test × Tree)
 tested test = mapped (λ v. (test, v)) (value 64)
@@ -58,7 +60,7 @@ tested test = mapped (λ v. (test, v)) (value 64)
 abbrev pub comparison : Grammar meant.Matcher
 comparison = mapped (λ c. meant.is c.0 c.1.0 c.1.1) (both path (words tested test_words))
 
--- a unit that begins with a word, by what stands behind it
+-- a unit that begins with a word, by what stands after it
 pub data Form : Type 0 where
   ready : meant.Matcher → Form
   negated : Form

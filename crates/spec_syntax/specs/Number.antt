@@ -1,6 +1,6 @@
 -- The grammar of numbers. A number never leaves its range: it stops before the digit with which it would.
 use Rattle.std.specs.Prelude.{◌≡◌, ◌+◌, ◌-◌, ◌*◌, ◌≤◌, ◌&&◌, nat_le, ℕ, ℤ, pos, negsuc, Bool, IsTrue, [], ◌∷◌, codes}
-use Rattle.spec_grammar.specs.Grammar.{Grammar, word, mapped, either, after, led}
+use Rattle.spec_syntax.specs.Grammar.{Grammar, word, mapped, either, after, led}
 
 abbrev pub between : ℕ → ℕ → ℕ → Bool
 between low high b = nat_le low b && nat_le b high
@@ -8,10 +8,11 @@ between low high b = nat_le low b && nat_le b high
 abbrev pub is_digit : ℕ → Bool
 is_digit = between 48 57
 
--- the digits behind a number, each of which makes it longer
+-- the digits after a number, each of which makes it longer
 abbrev pub longer : ℕ → ℕ → Grammar ℕ
 longer top a n [] = n ≡ a
-longer top a n (d ∷ ds) = IsTrue (is_digit d) × (a * 10 + (d - 48) ≤ top) × longer top (a * 10 + (d - 48)) n ds
+longer top a n (d ∷ ds) =
+    IsTrue (is_digit d) × (a * 10 + (d - 48) ≤ top) × longer top (a * 10 + (d - 48)) n ds
 
 -- a number from 1 on: a digit from 1 to 9, and more digits
 abbrev pub positive : ℕ → Grammar ℕ
@@ -26,4 +27,6 @@ negative n = negsuc (n - 1)
 
 -- number = "0" | ["-"] digit1 {digit}, of 64 bits
 abbrev pub number : Grammar ℤ
-number = either (mapped negative (after (codes "-") (positive 9223372036854775808))) (mapped pos (natural 9223372036854775807))
+number =
+    either (mapped negative (after (codes "-") (positive 9223372036854775808)))
+    (mapped pos (natural 9223372036854775807))

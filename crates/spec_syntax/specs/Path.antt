@@ -1,6 +1,6 @@
 -- The grammar of paths and of orders by keys.
 use Rattle.std.specs.Prelude.{ℕ, true, false, List, [], codes}
-use Rattle.spec_grammar.specs.Grammar.{Grammar, mapped, either, optional, after, more_of, upto}
+use Rattle.spec_syntax.specs.Grammar.{Grammar, mapped, either, optional, after, more_of, upto}
 use Rattle.spec_lang.specs.Sorting.{Key}
 use Rattle.spec_syntax.specs.Number.{natural}
 

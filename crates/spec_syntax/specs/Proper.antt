@@ -71,7 +71,7 @@ deeper_if true n = n + 1
 deeper_if false n = n
 
 abbrev mutual
-  -- how deep the one spelling of a matcher nests: one deeper behind each `not` and between parentheses
+  -- how deep the one spelling of a matcher nests: one deeper after each `not` and between parentheses
   pub matcher_nesting : matcher.Matcher → ℕ
   matcher_nesting matcher.all = 0
   matcher_nesting matcher.nothing = 0
@@ -83,9 +83,11 @@ abbrev mutual
   -- that of the parts of an `and`
   pub units_nesting : matcher.Matchers → ℕ
   units_nesting matcher.none = 0
-  units_nesting (matcher.more m ms) = max (deeper_if (is_joined m) (matcher_nesting m)) (units_nesting ms)
+  units_nesting (matcher.more m ms) =
+      max (deeper_if (is_joined m) (matcher_nesting m)) (units_nesting ms)
 
   -- that of the parts of an `or`
   pub choices_nesting : matcher.Matchers → ℕ
   choices_nesting matcher.none = 0
-  choices_nesting (matcher.more m ms) = max (deeper_if (is_choice m) (matcher_nesting m)) (choices_nesting ms)
+  choices_nesting (matcher.more m ms) =
+      max (deeper_if (is_choice m) (matcher_nesting m)) (choices_nesting ms)

@@ -1,11 +1,12 @@
 -- Worked rows of the readers of values, each by computing.
 use Rattle.std.specs.Prelude.{◌≡◌, negsuc, [], ◌∷◌, refl, codes}
 use Rattle.spec_value.specs.Tree.{num, text, items_of}
-use Rattle.spec_grammar.specs.Reader.{read, fault, whole}
+use Rattle.spec_syntax.specs.Reader.{read, fault, whole}
 use Rattle.spec_syntax.specs.ValueReader.{read_nested}
 
 -- a value of each form
-forms : whole (read_nested 2 (codes "[-5,\"\\\"\\n\\x01a\",[]]")) ≡ read (items_of (num (negsuc 4) ∷ text (34 ∷ 10 ∷ 1 ∷ 97 ∷ []) ∷ items_of [] ∷ []))
+forms : whole (read_nested 2 (codes "[-5,\"\\\"\\n\\x01a\",[]]"))
+    ≡ read (items_of (num (negsuc 4) ∷ text (34 ∷ 10 ∷ 1 ∷ 97 ∷ []) ∷ items_of [] ∷ []))
 unfolding read_nested
 forms = refl
 

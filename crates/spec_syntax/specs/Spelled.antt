@@ -2,7 +2,7 @@
 use Rattle.std.specs.Prelude.{ℕ, Bool, true, false, if◌then◌else◌, List, [], ◌∷◌, ◌++◌, codes, decimal}
 use Rattle.std.specs.Fmt.{signed_decimal}
 use Rattle.spec_value.specs.Tree.{text}
-use Rattle.spec_texts.specs.Value.{spelled_value}
+use Rattle.spec_syntax.specs.ValueText.{spelled_value}
 use Rattle.spec_lang.specs.declared.Bounds.{Bounds}
 use Rattle.spec_lang.specs.declared.Bounds.TheVariants.{Head, Tail, Middle}
 use Rattle.spec_lang.specs.declared.Test.{Test}
@@ -25,7 +25,7 @@ spelled_path (i ∷ path) = spelled_steps (i ∷ path)
 abbrev pub spelled_key : Key → List ℕ
 spelled_key key = (if key.down then codes "desc " else []) ++ spelled_path key.path
 
--- the keys behind the first one
+-- the keys after the first one
 abbrev pub spelled_keys : List Key → List ℕ
 spelled_keys [] = []
 spelled_keys (key ∷ keys) = codes ", " ++ spelled_key key ++ spelled_keys keys
@@ -45,8 +45,10 @@ abbrev mutual
   spelled_func (number n) = signed_decimal n
   spelled_func (bytes bs) = spelled_value (text bs)
   spelled_func (count path) = codes "count(" ++ spelled_path path ++ codes ")"
-  spelled_func (total path each) = codes "sum(" ++ spelled_path path ++ codes "," ++ spelled_path each ++ codes ")"
-  spelled_func (sum f g) = codes "add(" ++ spelled_func f ++ codes "," ++ spelled_func g ++ codes ")"
+  spelled_func (total path each) =
+      codes "sum(" ++ spelled_path path ++ codes "," ++ spelled_path each ++ codes ")"
+  spelled_func (sum f g) =
+      codes "add(" ++ spelled_func f ++ codes "," ++ spelled_func g ++ codes ")"
   spelled_func (list fs) = codes "[" ++ spelled_funcs fs ++ codes "]"
 
   -- the parts of a list, commas between them
@@ -54,7 +56,7 @@ abbrev mutual
   spelled_funcs funcs.none = []
   spelled_funcs (funcs.more f fs) = spelled_func f ++ spelled_other_funcs fs
 
-  -- the parts behind the first one
+  -- the parts after the first one
   pub spelled_other_funcs : funcs.Funcs → List ℕ
   spelled_other_funcs funcs.none = []
   spelled_other_funcs (funcs.more f fs) = codes "," ++ spelled_func f ++ spelled_other_funcs fs
@@ -68,7 +70,7 @@ spelled_test Le = codes " <= "
 spelled_test Gt = codes " > "
 spelled_test Ge = codes " >= "
 
--- what stands between parentheses inside an `and` and behind a `not`
+-- what stands between parentheses inside an `and` and after a `not`
 abbrev pub is_joined : meant.Matcher → Bool
 is_joined meant.all = false
 is_joined meant.nothing = false
@@ -96,7 +98,8 @@ abbrev mutual
   pub spelled_matcher : meant.Matcher → List ℕ
   spelled_matcher meant.all = codes "all"
   spelled_matcher meant.nothing = codes "none"
-  spelled_matcher (meant.is path test literal) = spelled_path path ++ spelled_test test ++ spelled_value literal
+  spelled_matcher (meant.is path test literal) =
+      spelled_path path ++ spelled_test test ++ spelled_value literal
   spelled_matcher (meant.negation m) = codes "not " ++ enclosed_if (is_joined m) (spelled_matcher m)
   spelled_matcher (meant.both ms) = spelled_units ms
   spelled_matcher (meant.either ms) = spelled_choices ms
@@ -104,17 +107,21 @@ abbrev mutual
   -- the parts of an `and`
   pub spelled_units : meant.Matchers → List ℕ
   spelled_units meant.none = []
-  spelled_units (meant.more m ms) = enclosed_if (is_joined m) (spelled_matcher m) ++ spelled_other_units ms
+  spelled_units (meant.more m ms) =
+      enclosed_if (is_joined m) (spelled_matcher m) ++ spelled_other_units ms
 
   pub spelled_other_units : meant.Matchers → List ℕ
   spelled_other_units meant.none = []
-  spelled_other_units (meant.more m ms) = codes " and " ++ enclosed_if (is_joined m) (spelled_matcher m) ++ spelled_other_units ms
+  spelled_other_units (meant.more m ms) =
+      codes " and " ++ enclosed_if (is_joined m) (spelled_matcher m) ++ spelled_other_units ms
 
   -- the parts of an `or`
   pub spelled_choices : meant.Matchers → List ℕ
   spelled_choices meant.none = []
-  spelled_choices (meant.more m ms) = enclosed_if (is_choice m) (spelled_matcher m) ++ spelled_other_choices ms
+  spelled_choices (meant.more m ms) =
+      enclosed_if (is_choice m) (spelled_matcher m) ++ spelled_other_choices ms
 
   pub spelled_other_choices : meant.Matchers → List ℕ
   spelled_other_choices meant.none = []
-  spelled_other_choices (meant.more m ms) = codes " or " ++ enclosed_if (is_choice m) (spelled_matcher m) ++ spelled_other_choices ms
+  spelled_other_choices (meant.more m ms) =
+      codes " or " ++ enclosed_if (is_choice m) (spelled_matcher m) ++ spelled_other_choices ms

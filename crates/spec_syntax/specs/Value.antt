@@ -1,7 +1,7 @@
 -- The grammar of values.
 use Rattle.std.specs.Prelude.{ℕ, zero, suc, List, [], codes}
 use Rattle.spec_value.specs.Tree.{Tree, num, text, items_of}
-use Rattle.spec_grammar.specs.Grammar.{Grammar, mapped, either, optional, after, closed, listed}
+use Rattle.spec_syntax.specs.Grammar.{Grammar, mapped, either, optional, after, closed, listed}
 use Rattle.spec_syntax.specs.Number.{number}
 use Rattle.spec_syntax.specs.Text.{texts}
 

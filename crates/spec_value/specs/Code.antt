@@ -9,23 +9,23 @@ abbrev pub Mark : Type 0
 Mark = Bool ⊎ (ℤ ⊎ List ℕ)
 
 abbrev mutual
-  -- the marks of a value in front of those of the list that it begins
+  -- the marks of a value before those of the list that it begins
   pub tree_marks : Tree → List Mark → List Mark
   tree_marks (num n) k = inr (inl n) ∷ k
   tree_marks (text bs) k = inr (inr bs) ∷ k
   tree_marks (items ts) k = inl false ∷ trees_marks ts k
 
-  -- the marks of a list in front of those below it on the stack
+  -- the marks of a list before those below it on the stack
   pub trees_marks : Trees → List Mark → List Mark
   trees_marks none k = inl true ∷ k
   trees_marks (more t ts) k = tree_marks t (trees_marks ts k)
 
--- a value put in front of the topmost list
+-- a value put before the topmost list
 abbrev pub push : Tree → List Trees → List Trees
 push t [] = []
 push t (ts ∷ stack) = more t ts ∷ stack
 
--- the topmost list put in front of the next one
+-- the topmost list put before the next one
 abbrev pub nest : List Trees → List Trees
 nest [] = []
 nest (ts ∷ stack) = push (items ts) stack
@@ -38,14 +38,17 @@ read_marks (inr (inl n) ∷ k) = push (num n) (read_marks k)
 read_marks (inr (inr bs) ∷ k) = push (text bs) (read_marks k)
 
 mutual
-  pub read_marks-tree : (t : Tree) (k : List Mark) → read_marks (tree_marks t k) ≡ push t (read_marks k)
+  pub read_marks-tree : (t : Tree) (k : List Mark)
+      → read_marks (tree_marks t k) ≡ push t (read_marks k)
   read_marks-tree (num n) k = refl
   read_marks-tree (text bs) k = refl
   read_marks-tree (items ts) k = ap nest (read_marks-trees ts k)
 
-  pub read_marks-trees : (ts : Trees) (k : List Mark) → read_marks (trees_marks ts k) ≡ ts ∷ read_marks k
+  pub read_marks-trees : (ts : Trees) (k : List Mark)
+      → read_marks (trees_marks ts k) ≡ ts ∷ read_marks k
   read_marks-trees none k = refl
-  read_marks-trees (more t ts) k = read_marks-tree t (trees_marks ts k) ∙ ap (push t) (read_marks-trees ts k)
+  read_marks-trees (more t ts) k =
+      read_marks-tree t (trees_marks ts k) ∙ ap (push t) (read_marks-trees ts k)
 
 abbrev pub first : List Trees → Tree
 first [] = num (pos 0)
@@ -63,4 +66,5 @@ from_marks-to_marks t = ap first (read_marks-tree t (inl true ∷ []))
 
 abbrev pub tree_code : Coded Tree
 tree_code =
-    code_by (List Mark) (coded_list (coded⊎ coded_bool (coded⊎ coded_ℤ (coded_list coded_ℕ)))) to_marks from_marks from_marks-to_marks
+    code_by (List Mark) (coded_list (coded⊎ coded_bool (coded⊎ coded_ℤ (coded_list coded_ℕ))))
+    to_marks from_marks from_marks-to_marks

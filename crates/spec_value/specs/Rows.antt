@@ -40,7 +40,8 @@ text_prefix_first = refl
 prefix_first : cmp (items_of (num (pos 1) ∷ [])) (items_of (num (pos 1) ∷ num (pos 0) ∷ [])) ≡ Less
 prefix_first = refl
 
-by_first_difference : cmp (items_of (num (pos 2) ∷ [])) (items_of (num (pos 1) ∷ num (pos 9) ∷ [])) ≡ Greater
+by_first_difference : cmp (items_of (num (pos 2) ∷ [])) (items_of (num (pos 1) ∷ num (pos 9) ∷ []))
+    ≡ Greater
 by_first_difference = refl
 
 same_is_equal : cmp row row ≡ Equal

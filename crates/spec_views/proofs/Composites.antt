@@ -8,9 +8,9 @@ use Rattle.spec_lists.specs.Piece.{Piece, deleted, identity, IsNormal, normal}
 use Rattle.spec_lists.specs.Delta.{Delta}
 use Rattle.spec_lists.specs.Leads.{IsDelta}
 use Rattle.spec_lists.proofs.Normal.{IsNormal-normal}
-use Rattle.spec_lists.proofs.Editing.{identity_normal, identity_leads, append_leads, append_normal, clear_leads}
-use Rattle.spec_lists.proofs.Leading.{normal_leads}
-use Rattle.spec_lists.proofs.Making.{leads_append}
+use Rattle.spec_lists.proofs.DeltaEdits.{identity_normal, identity_leads, append_leads, append_normal, clear_leads}
+use Rattle.spec_lists.proofs.DeltaLeads.{normal_leads}
+use Rattle.spec_lists.proofs.Made.{leads_append, between}
 use Rattle.spec_views.specs.Composite.{members_len, composite_view, composite_follow, attach_told, detach_told}
 
 here : (x : ℕ) (xs : List ℕ) → Contains (x ∷ xs) x
@@ -18,14 +18,6 @@ here x xs = (0, omega arith, refl)
 
 later : (x : ℕ) (xs : List ℕ) (y : ℕ) → Contains xs y → Contains (x ∷ xs) y
 later x xs y h = (suc h.0, (let lt = h.1 in omega arith), h.2)
-
--- the same lists, written in another way
-between : {ps : List Piece} {xs ys us vs : List Tree} → IsDelta ps xs ys → us ≡ xs → vs ≡ ys
-    → IsDelta ps us vs
-between {ps = ps} {ys = ys} {us = us} h e f =
-    let P : List Tree → Type 0 = λ zs. IsDelta ps zs ys in
-    let Q : List Tree → Type 0 = λ zs. IsDelta ps us zs in
-    subst Q (sym f) (subst P (sym e) h)
 
 side_by_side : (members : List ℕ) (before after : ℕ → List Tree) (delta : ℕ → Delta)
     → ((i : ℕ) → Contains members i → IsDelta (delta i) (before i) (after i))
@@ -78,7 +70,7 @@ pub attach_normal : (members : List ℕ) (shows : ℕ → List Tree) (member : �
     → IsNormal (attach_told members shows member)
 attach_normal members shows member = append_normal (length (composite_view members shows)) (shows member)
 
--- the members before an index, the one at it, and those behind it
+-- the members before an index, the one at it, and those after it
 parts : (members : List ℕ) (index : ℕ)
     → members ≡ (take index members ++ take 1 (drop index members)) ++ drop (suc index) members
 parts [] zero = refl
@@ -90,16 +82,16 @@ parts (m ∷ ms) (suc index) = ap (λ xs. m ∷ xs) (parts ms index)
 pub detach_leads : (members : List ℕ) (shows : ℕ → List Tree) (index : ℕ)
     → IsDelta (detach_told members shows index) (composite_view members shows) (composite_view (remove members index) shows)
 detach_leads members shows index =
-    let front : List Tree = composite_view (take index members) shows in
+    let prefix : List Tree = composite_view (take index members) shows in
     let part : List Tree = composite_view (take 1 (drop index members)) shows in
-    let behind : List Tree = composite_view (drop (suc index) members) shows in
-    let whole : composite_view members shows ≡ (front ++ part) ++ behind =
+    let rest : List Tree = composite_view (drop (suc index) members) shows in
+    let whole : composite_view members shows ≡ (prefix ++ part) ++ rest =
     ap (λ ms. composite_view ms shows) (parts members index)
     ∙ flat_map-append shows (take index members ++ take 1 (drop index members)) (drop (suc index) members)
-    ∙ ap (λ xs. xs ++ behind) (flat_map-append shows (take index members) (take 1 (drop index members))) in
-    let left : composite_view (remove members index) shows ≡ (front ++ []) ++ behind =
-    flat_map-append shows (take index members) (drop (suc index) members) ∙ ap (λ xs. xs ++ behind) (sym (append-nil front)) in
-    between (leads_append _ _ _ _ _ _ (leads_append _ _ _ _ _ _ (identity_leads front) (clear_leads part)) (identity_leads behind)) whole left
+    ∙ ap (λ xs. xs ++ rest) (flat_map-append shows (take index members) (take 1 (drop index members))) in
+    let left : composite_view (remove members index) shows ≡ (prefix ++ []) ++ rest =
+    flat_map-append shows (take index members) (drop (suc index) members) ∙ ap (λ xs. xs ++ rest) (sym (append-nil prefix)) in
+    between (leads_append _ _ _ _ _ _ (leads_append _ _ _ _ _ _ (identity_leads prefix) (clear_leads part)) (identity_leads rest)) whole left
 
 detached_normal : (a : ℕ) (part : List Tree) (c : ℕ)
     → IsNormal ((identity a ++ map deleted part) ++ identity c)

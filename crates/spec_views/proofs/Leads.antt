@@ -4,11 +4,12 @@ use Rattle.std.specs.Prelude.{filter}
 use Rattle.spec_value.specs.Tree.{Tree}
 use Rattle.spec_lists.specs.Piece.{Piece, kept, updated, deleted, inserted}
 use Rattle.spec_lists.specs.Leads.{LeadsFrom, applied, IsDelta}
-use Rattle.spec_lists.proofs.Leading.{normal_leads}
+use Rattle.spec_lists.proofs.DeltaLeads.{normal_leads}
 use Rattle.spec_views.specs.Chosen.{Choice, chosen, chosen_from, told_of_pair, told_of_old, told_of_new, told_from, follow_chosen}
 use Rattle.spec_views.specs.Filter.{by_value, filter_view, filter_follow}
+use Rattle.spec_lists.proofs.Made.{between}
 
--- an element in front of the others, where it is shown
+-- an element before the others, where it is shown
 abbrev first : Bool → Tree → List Tree → List Tree
 first true x xs = x ∷ xs
 first false x xs = xs
@@ -39,13 +40,6 @@ deleted_leads false v ps xs ys h = h
 inserted_leads : (u : Bool) (w : Tree) (ps : List Piece) (xs ys : List Tree) → IsDelta ps xs ys → IsDelta (told_of_new u w ps) xs (first u w ys)
 inserted_leads true w ps xs ys h = record { starts = h.starts; ends = ap (λ zs. w ∷ zs) h.ends }
 inserted_leads false w ps xs ys h = h
-
--- the same, where the two lists are written in another way
-between : {ps : List Piece} {xs ys us vs : List Tree} → IsDelta ps xs ys → us ≡ xs → vs ≡ ys → IsDelta ps us vs
-between {ps = ps} {ys = ys} {us = us} h e f =
-    let P : List Tree → Type 0 = λ zs. IsDelta ps zs ys in
-    let Q : List Tree → Type 0 = λ zs. IsDelta ps us zs in
-    subst Q (sym f) (subst P (sym e) h)
 
 told_leads : (before after : Choice) (i j : ℕ) (xs : List Tree) (ps : List Piece) → LeadsFrom ps xs
     → IsDelta (told_from before after i j xs ps) (chosen_from before i xs) (chosen_from after j (applied ps xs))

@@ -1,8 +1,8 @@
 pub mod Leads
 pub mod Single
-pub mod Following
-pub mod Placing
-pub mod Arranging
+pub mod Follows
+pub mod SortedPositions
+pub mod Arrangements
 pub mod Composites
 pub mod Same
 pub mod SameSorted
@@ -10,3 +10,9 @@ pub mod SameClasses
 pub mod SameChildren
 pub mod Views
 pub mod SameKeys
+pub use Rattle.spec_lists.proofs.DeltaLeads
+pub use Rattle.spec_lists.proofs.Normal
+pub use Rattle.spec_lists.proofs.DeltaChanges
+pub use Rattle.spec_lists.proofs.Lengths
+pub use Rattle.spec_lists.proofs.DeltaEdits
+pub use Rattle.spec_basics.proofs.Lists

@@ -5,14 +5,14 @@ use Rattle.std.proofs.lemmas.List.{length-map, length-append}
 use Rattle.spec_value.specs.Tree.{Tree}
 use Rattle.spec_lists.specs.Piece.{Piece, kept, identity, normal}
 use Rattle.spec_lists.proofs.Normal.{normal_is}
-use Rattle.spec_lists.proofs.Editing.{identity_normal}
+use Rattle.spec_lists.proofs.DeltaEdits.{identity_normal}
 use Rattle.spec_lists.proofs.Lengths.{new_len-identity}
 use Rattle.spec_lang.specs.declared.Bounds.{Bounds}
 use Rattle.spec_views.specs.Chosen.{Choice, chosen_from, follow_chosen, told_from}
-use Rattle.spec_views.specs.Range.{range_view, by_place, range_follow}
+use Rattle.spec_views.specs.Range.{range_view, by_position, range_follow}
 use Rattle.spec_views.specs.Function.{function_view, function_follow}
 use Rattle.spec_views.specs.Composite.{composite_view, composite_follow}
-use Rattle.spec_views.proofs.Following.{chosen_by_place}
+use Rattle.spec_views.proofs.Follows.{chosen_by_position}
 
 told_same : (shows : Choice) (xs : List Tree) (i : ℕ)
     → told_from shows shows i i xs (identity (length xs))
@@ -31,10 +31,10 @@ told_same shows (x ∷ xs) i = by_case (shows i x) refl (told_same shows xs (suc
 pub range_same : (bounds : Bounds) (xs : List Tree)
     → range_follow bounds xs (identity (length xs)) ≡ identity (length (range_view bounds xs))
 range_same bounds xs =
-    let shows : Choice = by_place bounds (length xs) in
-    ap (λ n. follow_chosen shows (by_place bounds n) xs (identity (length xs))) (new_len-identity (length xs))
+    let shows : Choice = by_position bounds (length xs) in
+    ap (λ n. follow_chosen shows (by_position bounds n) xs (identity (length xs))) (new_len-identity (length xs))
     ∙ ap normal (told_same shows xs 0) ∙ normal_is _ (identity_normal (length (chosen_from shows 0 xs)))
-    ∙ ap (λ ys. identity (length ys)) (chosen_by_place bounds xs)
+    ∙ ap (λ ys. identity (length ys)) (chosen_by_position bounds xs)
 
 mapped_kept : (f : Tree → Tree) (n : ℕ) → function_follow f (identity n) ≡ identity n
 mapped_kept f zero = refl

@@ -10,7 +10,7 @@ use Rattle.spec_lists.specs.Piece.{identity}
 use Rattle.spec_lists.specs.Pairs.{Pair, pairs}
 use Rattle.spec_lists.specs.Leads.{applied}
 use Rattle.spec_lists.specs.Making.{pieces_by}
-use Rattle.spec_lists.proofs.Leading.{applied_no_change}
+use Rattle.spec_lists.proofs.DeltaLeads.{applied_no_change}
 use Rattle.spec_lists.proofs.Plains.{plains, plains_append, pairs_identity, pieces_by_plains}
 use Rattle.spec_views.specs.Source.{element_at}
 use Rattle.spec_views.specs.Collection.{collection_view, collection_follow, child_count, children_before, child_pairs}

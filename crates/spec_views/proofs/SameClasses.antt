@@ -13,15 +13,15 @@ use Rattle.spec_lists.specs.Piece.{identity}
 use Rattle.spec_lists.specs.Pairs.{Pair, pairs}
 use Rattle.spec_lists.specs.Leads.{applied}
 use Rattle.spec_lists.specs.Making.{pieces_by}
-use Rattle.spec_lists.proofs.Leading.{applied_no_change}
+use Rattle.spec_lists.proofs.DeltaLeads.{applied_no_change}
 use Rattle.spec_lists.proofs.Plains.{plains, pairs_identity, pieces_by_plains}
 use Rattle.spec_views.specs.Source.{element_at}
 use Rattle.spec_views.specs.Arrangement.{Comparison, is_before, arrangement}
 use Rattle.spec_views.specs.Classes.{Class, first_of, has_key_of, with_member, classes_among, classes, pair_of_class, pairs_of_classes, class_pairs, is_kept_old, is_kept_new, is_plain_pair, keeps_members}
 use Rattle.spec_views.specs.Unique.{unique_view, unique_follow}
 use Rattle.spec_views.specs.Grouping.{grouping_view, grouping_follow}
-use Rattle.spec_views.proofs.Placing.{Every, Sorted}
-use Rattle.spec_views.proofs.Arranging.{before_cases, arrangement_is, sorted_arrangement, within_arrangement}
+use Rattle.spec_views.proofs.SortedPositions.{Every, Sorted}
+use Rattle.spec_views.proofs.Arrangements.{before_cases, arrangement_is, sorted_arrangement, within_arrangement}
 
 -- something holds of each class
 abbrev Each : (Class → Type 0) → List Class → Type 0
@@ -52,7 +52,7 @@ module _ (compare : Comparison) (o : IsTotalOrder compare) (xs : List Tree) wher
   Rise [] = Unit {0}
   Rise (c ∷ cs) = Each (λ e. IsLess (first_of c) (first_of e)) cs × Rise cs
 
-  -- members are below a number of places, and the first stands behind what stood before all of them
+  -- members are below a number of places, and the first stands after what stood before all of them
   record Good (is : List ℕ) (cs : List Class) : Type 1 where
     rise : Rise cs
     members : (P : ℕ → Type 0) → Every P is → Each (Every P) cs

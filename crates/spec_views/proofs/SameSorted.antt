@@ -10,12 +10,13 @@ use Rattle.spec_lists.specs.Piece.{identity}
 use Rattle.spec_lists.specs.Pairs.{Pair, pairs}
 use Rattle.spec_lists.specs.Leads.{applied}
 use Rattle.spec_lists.specs.Making.{pieces_by}
-use Rattle.spec_lists.proofs.Leading.{applied_no_change}
+use Rattle.spec_lists.proofs.DeltaLeads.{applied_no_change}
 use Rattle.spec_lists.proofs.Plains.{plains, pairs_identity, pieces_by_plains}
 use Rattle.spec_views.specs.Arrangement.{Comparison, IsArrangement, arrangement}
-use Rattle.spec_views.specs.Sorted.{sorted_view, stays, index_of, at_sorted_places, by_old_place, sorted_pairs, sorted_follow}
-use Rattle.spec_views.proofs.Placing.{Every, In, Distinct, all_below}
-use Rattle.spec_views.proofs.Arranging.{arrangement_is, distinct_arrangement, within_arrangement}
+use Rattle.spec_views.specs.Sorted.{sorted_view, stays, index_of, at_sorted_positions, by_old_position, sorted_pairs, sorted_follow}
+use Rattle.spec_views.proofs.SortedPositions.{Every, In, Distinct, all_below, In_at}
+use Rattle.spec_views.proofs.Arrangements.{arrangement_is, distinct_arrangement, within_arrangement}
+use Rattle.spec_basics.proofs.Options.{same_some}
 
 -- where a number stands that is one of a list
 index_found : (i : ℕ) (js : List ℕ) → In i js → slice_get js (index_of i js) ≡ Some i
@@ -26,12 +27,6 @@ index_found i (j ∷ js) (inr later) = elim (cases_eq j i) [
   | inr other ↦ rw (ne_eqb j i other) (index_found i js later)
 ]
 
--- and of a list of distinct numbers the one at a place stands there
-at_In : (js : List ℕ) (k i : ℕ) → slice_get js k ≡ Some i → In i js
-at_In [] k i e = absurd cc
-at_In (j ∷ js) zero i e = inl cc
-at_In (j ∷ js) (suc k) i e = inr (at_In js k i e)
-
 other_In : (j : ℕ) (js : List ℕ) (i : ℕ) → Every (λ m. m ≢ j) js → In i js → i ≢ j
 other_In j [] i e found = absurd found
 other_In j (m ∷ ms) i e (inl same) = λ f. e.0 (sym same ∙ f)
@@ -41,7 +36,7 @@ index_placed : (js : List ℕ) (k i : ℕ) → Distinct js → slice_get js k �
 index_placed [] k i d e = absurd cc
 index_placed (j ∷ js) zero i d e = let same : j ≡ i = cc in rw (eq-eqb j i same) refl
 index_placed (j ∷ js) (suc k) i d e =
-    let other : i ≢ j = other_In j js i d.0 (at_In js k i e) in
+    let other : i ≢ j = other_In j js i d.0 (In_at js k i e) in
     rw (ne_eqb j i (λ f. other (sym f))) (ap suc (index_placed js k i d.1 e))
 
 -- the pair of an element with itself
@@ -80,12 +75,12 @@ one_at js k j a (suc m) is only le lt = elim (cases_eq a j) [
     both a b ps e f = cc
 
 -- one for each place
-each_place : (f : ℕ → List Pair) (a m : ℕ) → ((k : ℕ) → a ≤ k → k < a + m → f k ≡ itself k ∷ [])
+each_position : (f : ℕ → List Pair) (a m : ℕ) → ((k : ℕ) → a ≤ k → k < a + m → f k ≡ itself k ∷ [])
     → flat_map f (range_with_len a m) ≡ plains a m
-each_place f a zero h = refl
-each_place f a (suc m) h =
+each_position f a zero h = refl
+each_position f a (suc m) h =
     let next : a + 1 ≡ suc a = omega arith in
-    both (f a) a _ _ (h a (omega arith) (omega arith)) (ap (λ b. flat_map f (range_with_len b m)) next ∙ each_place f (suc a) m (λ k le lt. h k (omega (arith, le)) (omega (arith, lt))))
+    both (f a) a _ _ (h a (omega arith) (omega arith)) (ap (λ b. flat_map f (range_with_len b m)) next ∙ each_position f (suc a) m (λ k le lt. h k (omega (arith, le)) (omega (arith, lt))))
   where
     both : (p : List Pair) (k : ℕ) (us vs : List Pair) → p ≡ itself k ∷ [] → us ≡ vs
         → p ++ us ≡ itself k ∷ vs
@@ -98,7 +93,7 @@ all_stay compare xs ps a zero = refl
 all_stay compare xs ps a (suc m) = ap (λ us. itself a ∷ us) (all_stay compare xs ps (suc a) m)
 
 placed_alike : (compare : Comparison) (xs : List Tree) (a m : ℕ)
-    → map (at_sorted_places compare xs xs) (plains a m)
+    → map (at_sorted_positions compare xs xs) (plains a m)
     ≡ map (λ p. moved (arrangement compare xs) p.old) (plains a m)
 placed_alike compare xs a zero = refl
 placed_alike compare xs a (suc m) = ap (λ us. moved (arrangement compare xs) a ∷ us) (placed_alike compare xs (suc a) m)
@@ -108,9 +103,6 @@ get_within [] k h = absurd (omega (arith, h))
 get_within (j ∷ js) zero h = (j, refl)
 get_within (j ∷ js) (suc k) h = get_within js k (omega (arith, h))
 
-some_same : (i j : ℕ) → Some i ≡ Some j → i ≡ j
-some_same i j e = cc
-
 sorted_plains : (compare : Comparison) → IsTotalOrder compare → (xs : List Tree)
     → sorted_pairs compare xs xs (plains 0 (length xs)) ≡ plains 0 (length xs)
 sorted_plains compare o xs =
@@ -119,22 +111,22 @@ sorted_plains compare o xs =
     let distinct : Distinct js = distinct_arrangement compare o xs js is in
     let below : Every (λ i. i < length xs) js = within_arrangement compare o xs js is in
     let all : (i : ℕ) → i < length xs → In i js = all_below (length xs) js is.long distinct below in
-    ap (λ ps. by_old_place (length xs) (map (at_sorted_places compare xs xs) ps)) (all_stay compare xs (plains 0 (length xs)) 0 (length xs))
-    ∙ ap (by_old_place (length xs)) (placed_alike compare xs 0 (length xs))
-    ∙ each_place (λ k. filter (λ p. p.old == k) (map (λ p. moved js p.old) (plains 0 (length xs)))) 0 (length xs) (λ k le lt. at_place js k is.long distinct is.within all lt)
+    ap (λ ps. by_old_position (length xs) (map (at_sorted_positions compare xs xs) ps)) (all_stay compare xs (plains 0 (length xs)) 0 (length xs))
+    ∙ ap (by_old_position (length xs)) (placed_alike compare xs 0 (length xs))
+    ∙ each_position (λ k. filter (λ p. p.old == k) (map (λ p. moved js p.old) (plains 0 (length xs)))) 0 (length xs) (λ k le lt. at_position js k is.long distinct is.within all lt)
   where
-    at_place : (js : List ℕ) (k : ℕ) → length js ≡ length xs → Distinct js
+    at_position : (js : List ℕ) (k : ℕ) → length js ≡ length xs → Distinct js
         → ((p i : ℕ) → slice_get js p ≡ Some i → i < length xs)
         → ((i : ℕ) → i < length xs → In i js) → k < 0 + length xs
         → filter (λ p. p.old == k) (map (λ p. moved js p.old) (plains 0 (length xs)))
         ≡ itself k ∷ []
-    at_place js k long distinct within all lt =
+    at_position js k long distinct within all lt =
         let there : k < length js = omega (arith, lt, long) in
         let j : ℕ = (get_within js k there).0 in
         let at : slice_get js k ≡ Some j = (get_within js k there).1 in
         let less : j < length xs = within k j at in
         one_at js k j 0 (length xs) (index_placed js k j distinct at)
-        (λ i le small e. some_same i j (sym (index_found i js (all i (omega (arith, small)))) ∙ ap (slice_get js) e ∙ at)) (omega arith) (omega (arith, less))
+        (λ i le small e. same_some i j (sym (index_found i js (all i (omega (arith, small)))) ∙ ap (slice_get js) e ∙ at)) (omega arith) (omega (arith, less))
 
 pub sorted_same : (compare : Comparison) → IsTotalOrder compare → (xs : List Tree)
     → sorted_follow compare xs (identity (length xs)) ≡ identity (length (sorted_view compare xs))

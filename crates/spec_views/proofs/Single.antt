@@ -39,14 +39,14 @@ told_kept accepts (x ∷ xs) i j = by_case (accepts x) refl (told_kept accepts x
     by_case false e others = rw e others
 
 -- kept pieces ahead of others
-told_front : (accepts : Tree → Bool) (xs : List Tree) (at : ℕ) (ps : List Piece) (i j : ℕ) → at ≤ length xs → told accepts i j xs (identity at ++ ps) ≡ identity (rank accepts xs at) ++ told accepts (i + at) (j + at) (drop at xs) ps
-told_front accepts xs zero ps i j h = start xs
+told_prefix : (accepts : Tree → Bool) (xs : List Tree) (at : ℕ) (ps : List Piece) (i j : ℕ) → at ≤ length xs → told accepts i j xs (identity at ++ ps) ≡ identity (rank accepts xs at) ++ told accepts (i + at) (j + at) (drop at xs) ps
+told_prefix accepts xs zero ps i j h = start xs
   where
     start : (ys : List Tree) → told accepts i j ys ps ≡ identity (rank accepts ys 0) ++ told accepts (i + 0) (j + 0) (drop 0 ys) ps
     start [] = let e : i + 0 ≡ i = omega arith in let f : j + 0 ≡ j = omega arith in rw (e, f) refl
     start (y ∷ ys) = let e : i + 0 ≡ i = omega arith in let f : j + 0 ≡ j = omega arith in rw (e, f) refl
-told_front accepts [] (suc at) ps i j h = absurd (omega arith)
-told_front accepts (x ∷ xs) (suc at) ps i j h = by_case (accepts x) refl (told_front accepts xs at ps (suc i) (suc j) (omega arith))
+told_prefix accepts [] (suc at) ps i j h = absurd (omega arith)
+told_prefix accepts (x ∷ xs) (suc at) ps i j h = by_case (accepts x) refl (told_prefix accepts xs at ps (suc i) (suc j) (omega arith))
   where
     by_case : (t : Bool) → accepts x ≡ t → told accepts (suc i) (suc j) xs (identity at ++ ps) ≡ identity (rank accepts xs at) ++ told accepts (suc i + at) (suc j + at) (drop at xs) ps
         → told accepts i j (x ∷ xs) (identity (suc at) ++ ps) ≡ identity (rank accepts (x ∷ xs) (suc at)) ++ told accepts (i + suc at) (j + suc at) (drop (suc at) (x ∷ xs)) ps
@@ -82,8 +82,8 @@ insert_follow accepts xs at v h =
     let r : ℕ = rank accepts xs at in
     let rest : told accepts (0 + at) (suc (0 + at)) (drop at xs) (identity (length xs - at)) ≡ identity (n - r) =
     ap (λ m. told accepts (0 + at) (suc (0 + at)) (drop at xs) (identity m)) (length_after xs at) ∙ told_kept accepts (drop at xs) (0 + at) (suc (0 + at)) ∙ ap identity (sym (parts_at accepts xs at h)) in
-    let front : told accepts 0 0 xs (one_insert (length xs) at v) ≡ identity r ++ told_of_new (accepts v) v (told accepts (0 + at) (suc (0 + at)) (drop at xs) (identity (length xs - at))) = told_front accepts xs at (inserted v ∷ identity (length xs - at)) 0 0 h in
-    ap normal (front ∙ ap (λ ps. identity r ++ told_of_new (accepts v) v ps) rest) ∙ by_case (accepts v) n r (within accepts xs at h)
+    let prefix : told accepts 0 0 xs (one_insert (length xs) at v) ≡ identity r ++ told_of_new (accepts v) v (told accepts (0 + at) (suc (0 + at)) (drop at xs) (identity (length xs - at))) = told_prefix accepts xs at (inserted v ∷ identity (length xs - at)) 0 0 h in
+    ap normal (prefix ∙ ap (λ ps. identity r ++ told_of_new (accepts v) v ps) rest) ∙ by_case (accepts v) n r (within accepts xs at h)
   where
     by_case : (t : Bool) (n r : ℕ) → r ≤ n → normal (identity r ++ told_of_new t v (identity (n - r))) ≡ cond t (one_insert n r v) (identity n)
     by_case true n r le = normal_is _ (around_normal r (n - r) (inserted v))
@@ -105,7 +105,7 @@ starts_at_delete (x ∷ xs) zero v ps h = (omega arith, ap (λ y. y ∷ xs) h.0)
 starts_at_delete [] (suc at) v ps h = absurd h
 starts_at_delete (x ∷ xs) (suc at) v ps h = let g = starts_at_delete xs at v ps h in (omega (arith, g.0), g.1)
 
--- the accepted elements of a list: those ahead of one, that one where it is accepted, and those behind it
+-- the accepted elements of a list: those ahead of one, that one where it is accepted, and those after it
 counted : (accepts : Tree → Bool) (xs : List Tree) (at : ℕ) (v : Tree) → at < length xs → drop at xs ≡ v ∷ drop (suc at) xs → length (filter accepts xs) ≡ rank accepts xs at + (cond (accepts v) 1 0 + length (filter accepts (drop (suc at) xs)))
 counted accepts xs at v h is = parts_whole accepts xs at (omega (arith, h)) ∙ ap (λ ys. rank accepts xs at + length (filter accepts ys)) is ∙ by_case (accepts v) refl
   where
@@ -128,12 +128,12 @@ set_follow accepts xs at v w h =
     let r : ℕ = rank accepts xs at in
     let m : ℕ = length (filter accepts (drop (suc at) xs)) in
     let ps : List Piece = updated v w ∷ identity (length xs - suc at) in
-    let front : told accepts 0 0 xs (one_set (length xs) at v w) ≡ identity r ++ told accepts (0 + at) (0 + at) (drop at xs) ps = told_front accepts xs at ps 0 0 (omega (arith, there.0)) in
+    let prefix : told accepts 0 0 xs (one_set (length xs) at v w) ≡ identity r ++ told accepts (0 + at) (0 + at) (drop at xs) ps = told_prefix accepts xs at ps 0 0 (omega (arith, there.0)) in
     let rest : told accepts (suc (0 + at)) (suc (0 + at)) (drop (suc at) xs) (identity (length xs - suc at)) ≡ identity m =
     ap (λ k. told accepts (suc (0 + at)) (suc (0 + at)) (drop (suc at) xs) (identity k)) (length_after xs (suc at)) ∙ told_kept accepts (drop (suc at) xs) (suc (0 + at)) (suc (0 + at)) in
     let here : told accepts (0 + at) (0 + at) (drop at xs) ps ≡ told_of_pair (accepts v) (accepts w) (updated v w) v w (identity m) =
     ap (λ ys. told accepts (0 + at) (0 + at) ys ps) there.1 ∙ ap (told_of_pair (accepts v) (accepts w) (updated v w) v w) rest in
-    ap normal (front ∙ ap (λ qs. identity r ++ qs) here) ∙ by_case (accepts v) (accepts w) n r m (counted accepts xs at v there.0 there.1)
+    ap normal (prefix ∙ ap (λ qs. identity r ++ qs) here) ∙ by_case (accepts v) (accepts w) n r m (counted accepts xs at v there.0 there.1)
   where
     by_case : (t u : Bool) (n r m : ℕ) → n ≡ r + (cond t 1 0 + m)
         → normal (identity r ++ told_of_pair t u (updated v w) v w (identity m)) ≡ cond t (cond u (one_set n r v w) (one_remove n r v)) (cond u (one_insert n r w) (identity n))
@@ -151,12 +151,12 @@ remove_follow accepts xs at v h =
     let r : ℕ = rank accepts xs at in
     let m : ℕ = length (filter accepts (drop (suc at) xs)) in
     let ps : List Piece = deleted v ∷ identity (length xs - suc at) in
-    let front : told accepts 0 0 xs (one_remove (length xs) at v) ≡ identity r ++ told accepts (0 + at) (0 + at) (drop at xs) ps = told_front accepts xs at ps 0 0 (omega (arith, there.0)) in
+    let prefix : told accepts 0 0 xs (one_remove (length xs) at v) ≡ identity r ++ told accepts (0 + at) (0 + at) (drop at xs) ps = told_prefix accepts xs at ps 0 0 (omega (arith, there.0)) in
     let rest : told accepts (suc (0 + at)) (0 + at) (drop (suc at) xs) (identity (length xs - suc at)) ≡ identity m =
     ap (λ k. told accepts (suc (0 + at)) (0 + at) (drop (suc at) xs) (identity k)) (length_after xs (suc at)) ∙ told_kept accepts (drop (suc at) xs) (suc (0 + at)) (0 + at) in
     let here : told accepts (0 + at) (0 + at) (drop at xs) ps ≡ told_of_old (accepts v) v (identity m) =
     ap (λ ys. told accepts (0 + at) (0 + at) ys ps) there.1 ∙ ap (told_of_old (accepts v) v) rest in
-    ap normal (front ∙ ap (λ qs. identity r ++ qs) here) ∙ by_case (accepts v) n r m (counted accepts xs at v there.0 there.1)
+    ap normal (prefix ∙ ap (λ qs. identity r ++ qs) here) ∙ by_case (accepts v) n r m (counted accepts xs at v there.0 there.1)
   where
     by_case : (t : Bool) (n r m : ℕ) → n ≡ r + (cond t 1 0 + m) → normal (identity r ++ told_of_old t v (identity m)) ≡ cond t (one_remove n r v) (identity n)
     by_case true n r m e = let f : n - suc r ≡ m = omega (arith, e) in rw f (normal_is _ (around_normal r m (deleted v)))

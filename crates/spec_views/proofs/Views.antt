@@ -6,28 +6,28 @@ use Rattle.spec_lists.specs.Pairs.{Pair, pairs}
 use Rattle.spec_lists.specs.Delta.{Delta, no_change}
 use Rattle.spec_lists.specs.Leads.{IsDelta, applied}
 use Rattle.spec_lists.specs.Making.{pieces_by}
-use Rattle.spec_lists.proofs.Editing.{identity_leads, identity_normal}
-use Rattle.spec_lists.proofs.Making.{replaced_leads, replaced_normal, pieces_by_leads, pieces_by_normal}
+use Rattle.spec_lists.proofs.DeltaEdits.{identity_leads, identity_normal}
+use Rattle.spec_lists.proofs.Made.{replaced_leads, replaced_normal, pieces_by_leads, pieces_by_normal}
 use Rattle.spec_lang.specs.Matcher.{accepts}
 use Rattle.spec_lang.specs.Sorting.{order_cmp}
 use Rattle.spec_lang.specs.Func.{eval}
 use Rattle.spec_lang.specs.Kids.{kids}
 use Rattle.spec_views.specs.Filter.{by_value}
-use Rattle.spec_views.specs.Range.{by_place}
+use Rattle.spec_views.specs.Range.{by_position}
 use Rattle.spec_views.specs.Sorted.{sorted_view, sorted_pairs}
 use Rattle.spec_views.specs.Unique.{unique_view}
 use Rattle.spec_views.specs.Classes.{first_of, class_pairs, is_plain_pair, keeps_members}
 use Rattle.spec_views.specs.Grouping.{grouping_view}
 use Rattle.spec_views.specs.Collection.{collection_view, child_pairs}
 use Rattle.spec_views.specs.View.{View, filter, sorted, unique, grouping, range, function, collection, view_of, follow_of, Parameter, matcher, order, bounds, func, with_parameter, change_of}
-use Rattle.spec_lang.proofs.SortingLaws.{order_cmp_total}
+use Rattle.spec_lang.proofs.Sortings.{order_cmp_total}
 use Rattle.spec_views.proofs.Leads.{filter_leads}
 use Rattle.spec_views.proofs.Single.{identity_follow}
 use Rattle.spec_views.proofs.Same.{range_same, function_same}
 use Rattle.spec_views.proofs.SameSorted.{sorted_same}
 use Rattle.spec_views.proofs.SameClasses.{unique_same, grouping_same}
 use Rattle.spec_views.proofs.SameChildren.{collection_same}
-use Rattle.spec_views.proofs.Following.{chosen_normal, filter_change_leads, range_leads, range_change_leads, function_leads, function_normal, function_change_leads, function_change_normal}
+use Rattle.spec_views.proofs.Follows.{chosen_normal, filter_change_leads, range_leads, range_change_leads, function_leads, function_normal, function_change_leads, function_change_normal}
 
 -- the delta with given pairs leads to a view of the new input
 to_view : (view : List Tree → List Tree) (pairs_to : List Tree → List Pair) (d : Delta) (xs ys : List Tree)
@@ -53,7 +53,7 @@ follow_of_normal (filter m) xs d h = chosen_normal (by_value (accepts m)) (by_va
 follow_of_normal (sorted keys) xs d h = pieces_by_normal (sorted_view (order_cmp keys) xs) (sorted_view (order_cmp keys) (applied d xs)) (sorted_pairs (order_cmp keys) xs (applied d xs) (pairs d))
 follow_of_normal (unique keys) xs d h = pieces_by_normal (unique_view (order_cmp keys) xs) (unique_view (order_cmp keys) (applied d xs)) (class_pairs (order_cmp keys) xs (applied d xs) (λ c e. is_plain_pair (pairs d) (first_of c) (first_of e)))
 follow_of_normal (grouping keys) xs d h = pieces_by_normal (grouping_view (order_cmp keys) xs) (grouping_view (order_cmp keys) (applied d xs)) (class_pairs (order_cmp keys) xs (applied d xs) (keeps_members (pairs d)))
-follow_of_normal (range b) xs d h = chosen_normal (by_place b (length xs)) (by_place b (new_len d)) xs d
+follow_of_normal (range b) xs d h = chosen_normal (by_position b (length xs)) (by_position b (new_len d)) xs d
 follow_of_normal (function f) xs d h = function_normal (eval f) d h
 follow_of_normal (collection path) xs d h =
     pieces_by_normal (collection_view (kids path) xs) (collection_view (kids path) (applied d xs)) (flat_map (child_pairs (kids path) xs (applied d xs)) (pairs d))
@@ -109,7 +109,7 @@ change_of_normal (bounds b) (filter old) xs = identity_normal (length (view_of (
 change_of_normal (bounds b) (sorted old) xs = identity_normal (length (view_of (sorted old) xs))
 change_of_normal (bounds b) (unique old) xs = identity_normal (length (view_of (unique old) xs))
 change_of_normal (bounds b) (grouping old) xs = identity_normal (length (view_of (grouping old) xs))
-change_of_normal (bounds b) (range old) xs = chosen_normal (by_place old (length xs)) (by_place b (length xs)) xs (identity (length xs))
+change_of_normal (bounds b) (range old) xs = chosen_normal (by_position old (length xs)) (by_position b (length xs)) xs (identity (length xs))
 change_of_normal (bounds b) (function old) xs = identity_normal (length (view_of (function old) xs))
 change_of_normal (bounds b) (collection old) xs = identity_normal (length (view_of (collection old) xs))
 change_of_normal (func f) (filter old) xs = identity_normal (length (view_of (filter old) xs))

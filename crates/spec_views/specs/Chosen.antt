@@ -35,17 +35,22 @@ abbrev pub told_of_new : Bool → Tree → List Piece → List Piece
 told_of_new true y rest = inserted y ∷ rest
 told_of_new false y rest = rest
 
--- What the pieces of the input's change come to, behind i old and j new elements. The list xs is what the old input has
+-- What the pieces of the input's change come to, after i old and j new elements. The list xs is what the old input has
 -- from there on, since a kept piece doesn't say its value.
 abbrev pub told_from : Choice → Choice → ℕ → ℕ → List Tree → List Piece → List Piece
 told_from before after i j xs [] = []
 told_from before after i j [] (kept ∷ ps) = []
-told_from before after i j (x ∷ xs) (kept ∷ ps) = told_of_pair (before i x) (after j x) kept x x (told_from before after (suc i) (suc j) xs ps)
+told_from before after i j (x ∷ xs) (kept ∷ ps) =
+    told_of_pair (before i x) (after j x) kept x x (told_from before after (suc i) (suc j) xs ps)
 told_from before after i j [] (updated v w ∷ ps) = []
-told_from before after i j (x ∷ xs) (updated v w ∷ ps) = told_of_pair (before i v) (after j w) (updated v w) v w (told_from before after (suc i) (suc j) xs ps)
+told_from before after i j (x ∷ xs) (updated v w ∷ ps) =
+    told_of_pair (before i v) (after j w) (updated v w) v w
+    (told_from before after (suc i) (suc j) xs ps)
 told_from before after i j [] (deleted v ∷ ps) = []
-told_from before after i j (x ∷ xs) (deleted v ∷ ps) = told_of_old (before i v) v (told_from before after (suc i) j xs ps)
-told_from before after i j xs (inserted w ∷ ps) = told_of_new (after j w) w (told_from before after i (suc j) xs ps)
+told_from before after i j (x ∷ xs) (deleted v ∷ ps) =
+    told_of_old (before i v) v (told_from before after (suc i) j xs ps)
+told_from before after i j xs (inserted w ∷ ps) =
+    told_of_new (after j w) w (told_from before after i (suc j) xs ps)
 
 -- The change of the list, where the input changes by these pieces from these elements, and the choice before and after may
 -- differ: each pair of which both elements are shown stays a pair, plain or updated as it is, and no other is one.

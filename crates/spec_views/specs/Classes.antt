@@ -23,7 +23,8 @@ has_key_of compare xs ys i j = eq_by_cmp compare (element_at xs i) (element_at y
 -- classes with one element more in front
 abbrev pub with_member : Comparison → List Tree → ℕ → List Class → List Class
 with_member compare xs i [] = (i ∷ []) ∷ []
-with_member compare xs i (c ∷ cs) = if has_key_of compare xs xs i (first_of c) then (i ∷ c) ∷ cs else (i ∷ []) ∷ c ∷ cs
+with_member compare xs i (c ∷ cs) =
+    if has_key_of compare xs xs i (first_of c) then (i ∷ c) ∷ cs else (i ∷ []) ∷ c ∷ cs
 
 -- the classes of an arrangement's places
 abbrev pub classes_among : Comparison → List Tree → List ℕ → List Class
@@ -34,20 +35,25 @@ abbrev pub classes : Comparison → List Tree → List Class
 classes compare xs = classes_among compare xs (arrangement compare xs)
 
 -- the pair of a class of xs, the r-th, with the class of ys of equal key, if there is one; the first of these is the s-th
-abbrev pub pair_of_class : Comparison → List Tree → List Tree → (Class → Class → Bool) → ℕ → Class → ℕ → List Class → List Pair
+abbrev pub pair_of_class : Comparison → List Tree → List Tree → (Class → Class → Bool) → ℕ → Class
+    → ℕ → List Class → List Pair
 pair_of_class compare xs ys is_plain r c s [] = []
 pair_of_class compare xs ys is_plain r c s (e ∷ es) =
-    if has_key_of compare xs ys (first_of c) (first_of e) then record { old = r; new = s; updated = not (is_plain c e) } ∷ []
+    if has_key_of compare xs ys (first_of c) (first_of e)
+    then record { old = r; new = s; updated = not (is_plain c e) } ∷ []
     else pair_of_class compare xs ys is_plain r c (suc s) es
 
 -- Classes of equal key are paired, plainly where the test says so. The first of these classes of xs is the r-th.
-abbrev pub pairs_of_classes : Comparison → List Tree → List Tree → (Class → Class → Bool) → ℕ → List Class → List Class → List Pair
+abbrev pub pairs_of_classes : Comparison → List Tree → List Tree → (Class → Class → Bool) → ℕ
+    → List Class → List Class → List Pair
 pairs_of_classes compare xs ys is_plain r [] es = []
 pairs_of_classes compare xs ys is_plain r (c ∷ cs) es =
-    pair_of_class compare xs ys is_plain r c 0 es ++ pairs_of_classes compare xs ys is_plain (suc r) cs es
+    pair_of_class compare xs ys is_plain r c 0 es
+    ++ pairs_of_classes compare xs ys is_plain (suc r) cs es
 
 abbrev pub class_pairs : Comparison → List Tree → List Tree → (Class → Class → Bool) → List Pair
-class_pairs compare xs ys is_plain = pairs_of_classes compare xs ys is_plain 0 (classes compare xs) (classes compare ys)
+class_pairs compare xs ys is_plain =
+    pairs_of_classes compare xs ys is_plain 0 (classes compare xs) (classes compare ys)
 
 -- whether the element at an old place, or at a new one, is of a plain pair
 abbrev pub is_kept_old : List Pair → ℕ → Bool

@@ -20,12 +20,19 @@ children_before children xs i = length (flat_map children (take i xs))
 
 -- how many children of a pair are pairs: all of a plain one, of an updated one as many as both elements have
 abbrev pub paired_children : (Tree → List Tree) → List Tree → List Tree → Pair → ℕ
-paired_children children xs ys p = min (child_count children xs p.old) (child_count children ys p.new)
+paired_children children xs ys p =
+    min (child_count children xs p.old) (child_count children ys p.new)
 
 -- the pairs of the children of a pair of the input, plain or updated as it is
 abbrev pub child_pairs : (Tree → List Tree) → List Tree → List Tree → Pair → List Pair
 child_pairs children xs ys p =
-    map (λ k. record { old = children_before children xs p.old + k; new = children_before children ys p.new + k; updated = p.updated })
+    map (λ k.
+    record {
+      old = children_before children xs p.old + k;
+      new =
+          children_before children ys p.new + k;
+      updated = p.updated;
+    })
     (range_with_len 0 (paired_children children xs ys p))
 
 -- the change of a collection whose input changes by this delta from these elements

@@ -14,7 +14,8 @@ composite_follow members delta = normal (flat_map delta members)
 
 -- an attached member is inserted at the end
 abbrev pub attach_told : List ℕ → (ℕ → List Tree) → ℕ → Delta
-attach_told members shows member = no_change (length (composite_view members shows)) ++ map inserted (shows member)
+attach_told members shows member =
+    no_change (length (composite_view members shows)) ++ map inserted (shows member)
 
 -- how many elements the members show
 abbrev pub members_len : List ℕ → (ℕ → List Tree) → ℕ

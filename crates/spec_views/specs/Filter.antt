@@ -6,7 +6,7 @@ use Rattle.spec_views.specs.Chosen.{Choice, follow_chosen}
 
 -- an element is shown where it is accepted, wherever it stands
 abbrev pub by_value : (Tree → Bool) → Choice
-by_value accepts place value = accepts value
+by_value accepts position value = accepts value
 
 abbrev pub filter_view : (Tree → Bool) → List Tree → List Tree
 filter_view accepts xs = filter accepts xs
@@ -17,4 +17,5 @@ filter_follow accepts xs ps = follow_chosen (by_value accepts) (by_value accepts
 
 -- the change of a filter that gets another matcher
 abbrev pub filter_change : (Tree → Bool) → (Tree → Bool) → List Tree → List Piece
-filter_change before after xs = follow_chosen (by_value before) (by_value after) xs (identity (length xs))
+filter_change before after xs =
+    follow_chosen (by_value before) (by_value after) xs (identity (length xs))

@@ -12,3 +12,11 @@ pub mod Collection
 pub mod Composite
 pub mod View
 pub mod Rows
+pub use Rattle.spec_lists.specs.Piece
+pub use Rattle.spec_lang.specs.Matcher
+pub use Rattle.spec_lang.specs.Kind
+pub use Rattle.spec_value.specs.Tree
+pub use Rattle.spec_lists.specs.Leads
+pub use Rattle.spec_lists.specs.Cells
+pub use Rattle.spec_lang.specs.declared.EditKind
+pub use Rattle.spec_lang.specs.MatcherCode

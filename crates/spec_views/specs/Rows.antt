@@ -35,12 +35,16 @@ shown = refl
 
 -- an update that crosses the border is told as an insertion or a deletion, one inside as an update
 crossing :
-    filter_follow above_three five_nine_two (updated (num (pos 5)) (num (pos 1)) ∷ updated (num (pos 9)) (num (pos 8)) ∷ updated (num (pos 2)) (num (pos 4)) ∷ [])
+    filter_follow above_three five_nine_two
+    (updated (num (pos 5)) (num (pos 1)) ∷ updated (num (pos 9)) (num (pos 8))
+    ∷ updated (num (pos 2)) (num (pos 4)) ∷ [])
     ≡ deleted (num (pos 5)) ∷ updated (num (pos 9)) (num (pos 8)) ∷ inserted (num (pos 4)) ∷ []
 crossing = refl
 
 -- between two pairs the deletions come first
-order_kept : filter_follow above_three (num (pos 1) ∷ num (pos 7) ∷ []) (updated (num (pos 1)) (num (pos 6)) ∷ deleted (num (pos 7)) ∷ []) ≡ deleted (num (pos 7)) ∷ inserted (num (pos 6)) ∷ []
+order_kept : filter_follow above_three (num (pos 1) ∷ num (pos 7) ∷ [])
+    (updated (num (pos 1)) (num (pos 6)) ∷ deleted (num (pos 7)) ∷ [])
+    ≡ deleted (num (pos 7)) ∷ inserted (num (pos 6)) ∷ []
 order_kept = refl
 
 stricter : filter_change above_three above_five five_nine_two ≡ deleted (num (pos 5)) ∷ kept ∷ []
@@ -49,20 +53,25 @@ stricter = refl
 abbrev one_two_three : List Tree
 one_two_three = num (pos 1) ∷ num (pos 2) ∷ num (pos 3) ∷ []
 
-slices : (range_view (Tail 2 0) one_two_three ≡ num (pos 2) ∷ num (pos 3) ∷ []) × (range_view (Head 1 1) one_two_three ≡ []) × (range_view (Middle 2 2) one_two_three ≡ [])
+slices : (range_view (Tail 2 0) one_two_three ≡ num (pos 2) ∷ num (pos 3) ∷ [])
+    × (range_view (Head 1 1) one_two_three ≡ []) × (range_view (Middle 2 2) one_two_three ≡ [])
 slices = (refl, refl, refl)
 
--- an element behind the last moves the two last ones on
-moved_on : changes (range_follow (Tail 2 0) one_two_three (one_insert 3 3 (num (pos 4)))) ≡ delete 0 (num (pos 2)) ∷ insertion 1 (num (pos 4)) ∷ []
+-- an element after the last moves the two last ones on
+moved_on : changes (range_follow (Tail 2 0) one_two_three (one_insert 3 3 (num (pos 4))))
+    ≡ delete 0 (num (pos 2)) ∷ insertion 1 (num (pos 4)) ∷ []
 moved_on = refl
 
 -- the middle of four begins to show once there are five
-middle : changes (range_follow (Middle 2 2) (num (pos 1) ∷ num (pos 2) ∷ num (pos 3) ∷ num (pos 4) ∷ []) (one_insert 4 4 (num (pos 5)))) ≡ insertion 0 (num (pos 3)) ∷ []
+middle : changes
+    (range_follow (Middle 2 2) (num (pos 1) ∷ num (pos 2) ∷ num (pos 3) ∷ num (pos 4) ∷ [])
+    (one_insert 4 4 (num (pos 5)))) ≡ insertion 0 (num (pos 3)) ∷ []
 middle = refl
 
 -- from the last two of 1, 2, 4, 5 to the first
 other_bounds :
-    changes (range_change (Tail 2 0) (Head 0 1) (num (pos 1) ∷ num (pos 2) ∷ num (pos 4) ∷ num (pos 5) ∷ []))
+    changes (range_change (Tail 2 0) (Head 0 1)
+    (num (pos 1) ∷ num (pos 2) ∷ num (pos 4) ∷ num (pos 5) ∷ []))
     ≡ delete 0 (num (pos 4)) ∷ delete 0 (num (pos 5)) ∷ insertion 0 (num (pos 1)) ∷ []
 other_bounds = refl
 
@@ -82,18 +91,21 @@ downwards = order_cmp (record { path = []; down = true } ∷ [])
 
 -- [1,"b"] and [1,"a"] have equal key: an update that keeps the key stays, and one that passes the other moves
 staying :
-    changes (sorted_follow by_first (pair 1 (codes "b") ∷ pair 1 (codes "a") ∷ []) (one_set 2 0 (pair 1 (codes "b")) (pair 1 (codes "c"))))
+    changes (sorted_follow by_first (pair 1 (codes "b") ∷ pair 1 (codes "a") ∷ [])
+    (one_set 2 0 (pair 1 (codes "b")) (pair 1 (codes "c"))))
     ≡ update 0 (pair 1 (codes "b")) (pair 1 (codes "c")) ∷ []
 staying = refl
 
 moving :
-    changes (sorted_follow by_first (pair 1 (codes "c") ∷ pair 1 (codes "a") ∷ []) (one_set 2 0 (pair 1 (codes "c")) (pair 2 (codes "c"))))
+    changes (sorted_follow by_first (pair 1 (codes "c") ∷ pair 1 (codes "a") ∷ [])
+    (one_set 2 0 (pair 1 (codes "c")) (pair 2 (codes "c"))))
     ≡ delete 0 (pair 1 (codes "c")) ∷ insertion 1 (pair 2 (codes "c")) ∷ []
 moving = refl
 
 -- an element of equal key that stands first in the input stands first
 first_in :
-    changes (sorted_follow by_first (pair 2 (codes "c") ∷ pair 1 (codes "a") ∷ []) (one_insert 2 0 (pair 1 (codes "z"))))
+    changes (sorted_follow by_first (pair 2 (codes "c") ∷ pair 1 (codes "a") ∷ [])
+    (one_insert 2 0 (pair 1 (codes "z"))))
     ≡ insertion 0 (pair 1 (codes "z")) ∷ []
 first_in = refl
 
@@ -102,49 +114,61 @@ abbrev one_two_nine : List Tree
 one_two_nine = num (pos 1) ∷ num (pos 2) ∷ num (pos 9) ∷ []
 
 crossing_pairs :
-    changes (sorted_follow by_value one_two_nine (updated (num (pos 1)) (num (pos 5)) ∷ updated (num (pos 2)) (num (pos 3)) ∷ kept ∷ []))
-    ≡ delete 0 (num (pos 1)) ∷ delete 0 (num (pos 2)) ∷ insertion 0 (num (pos 3)) ∷ insertion 1 (num (pos 5)) ∷ []
+    changes (sorted_follow by_value one_two_nine
+    (updated (num (pos 1)) (num (pos 5)) ∷ updated (num (pos 2)) (num (pos 3)) ∷ kept ∷ []))
+    ≡ delete 0 (num (pos 1)) ∷ delete 0 (num (pos 2)) ∷ insertion 0 (num (pos 3))
+    ∷ insertion 1 (num (pos 5)) ∷ []
 crossing_pairs = refl
 
 -- two updates that don't cross stay both
 not_crossing :
-    changes (sorted_follow by_value one_two_nine (updated (num (pos 1)) (num (pos 3)) ∷ updated (num (pos 2)) (num (pos 5)) ∷ kept ∷ []))
+    changes (sorted_follow by_value one_two_nine
+    (updated (num (pos 1)) (num (pos 3)) ∷ updated (num (pos 2)) (num (pos 5)) ∷ kept ∷ []))
     ≡ update 0 (num (pos 1)) (num (pos 3)) ∷ update 1 (num (pos 2)) (num (pos 5)) ∷ []
 not_crossing = refl
 
 -- another order pairs nothing
 other_order :
     changes (sorted_change by_value downwards (num (pos 1) ∷ num (pos 2) ∷ []))
-    ≡ delete 0 (num (pos 1)) ∷ delete 0 (num (pos 2)) ∷ insertion 0 (num (pos 2)) ∷ insertion 1 (num (pos 1)) ∷ []
+    ≡ delete 0 (num (pos 1)) ∷ delete 0 (num (pos 2)) ∷ insertion 0 (num (pos 2))
+    ∷ insertion 1 (num (pos 1)) ∷ []
 other_order = refl
 
 -- of three elements of equal key the first goes, and the next one is shown
 next_of_class :
-    changes (unique_follow by_first (pair 1 (codes "a") ∷ pair 1 (codes "b") ∷ pair 1 (codes "c") ∷ []) (one_remove 3 0 (pair 1 (codes "a"))))
+    changes (unique_follow by_first
+    (pair 1 (codes "a") ∷ pair 1 (codes "b") ∷ pair 1 (codes "c") ∷ [])
+    (one_remove 3 0 (pair 1 (codes "a"))))
     ≡ update 0 (pair 1 (codes "a")) (pair 1 (codes "b")) ∷ []
 next_of_class = refl
 
 last_of_class :
-    changes (unique_follow by_first (pair 1 (codes "c") ∷ []) (one_remove 1 0 (pair 1 (codes "c")))) ≡ delete 0 (pair 1 (codes "c")) ∷ []
+    changes (unique_follow by_first (pair 1 (codes "c") ∷ []) (one_remove 1 0 (pair 1 (codes "c"))))
+    ≡ delete 0 (pair 1 (codes "c")) ∷ []
 last_of_class = refl
 
 -- an element changes its class: the one that it joins shows it first, the one that it leaves is gone
 joined_class :
-    changes (unique_follow by_first (pair 2 (codes "x") ∷ pair 1 (codes "y") ∷ []) (one_set 2 0 (pair 2 (codes "x")) (pair 1 (codes "z"))))
+    changes (unique_follow by_first (pair 2 (codes "x") ∷ pair 1 (codes "y") ∷ [])
+    (one_set 2 0 (pair 2 (codes "x")) (pair 1 (codes "z"))))
     ≡ update 0 (pair 1 (codes "y")) (pair 1 (codes "z")) ∷ delete 1 (pair 2 (codes "x")) ∷ []
 joined_class = refl
 
 joined_group :
-    changes (grouping_follow by_first (pair 2 (codes "x") ∷ pair 1 (codes "y") ∷ []) (one_set 2 0 (pair 2 (codes "x")) (pair 1 (codes "z"))))
-    ≡ update 0 (items_of (pair 1 (codes "y") ∷ [])) (items_of (pair 1 (codes "z") ∷ pair 1 (codes "y") ∷ []))
+    changes (grouping_follow by_first (pair 2 (codes "x") ∷ pair 1 (codes "y") ∷ [])
+    (one_set 2 0 (pair 2 (codes "x")) (pair 1 (codes "z"))))
+    ≡ update 0 (items_of (pair 1 (codes "y") ∷ []))
+    (items_of (pair 1 (codes "z") ∷ pair 1 (codes "y") ∷ []))
     ∷ delete 1 (items_of (pair 2 (codes "x") ∷ []))
     ∷ []
 joined_group = refl
 
 -- a member more updates its group alone
 one_member_more :
-    changes (grouping_follow by_first (pair 1 (codes "a") ∷ pair 2 (codes "b") ∷ []) (one_insert 2 2 (pair 1 (codes "c"))))
-    ≡ update 0 (items_of (pair 1 (codes "a") ∷ [])) (items_of (pair 1 (codes "a") ∷ pair 1 (codes "c") ∷ [])) ∷ []
+    changes (grouping_follow by_first (pair 1 (codes "a") ∷ pair 2 (codes "b") ∷ [])
+    (one_insert 2 2 (pair 1 (codes "c"))))
+    ≡ update 0 (items_of (pair 1 (codes "a") ∷ []))
+    (items_of (pair 1 (codes "a") ∷ pair 1 (codes "c") ∷ [])) ∷ []
 one_member_more = refl
 
 -- a parent that is updated keeps as many children as it had and has, as updates
@@ -157,8 +181,10 @@ one_child_more = refl
 
 -- one list twice: its insertion is told at both places
 twice_a_member :
-    changes (composite_follow (0 ∷ 0 ∷ []) (λ list. one_insert 1 1 (num (pos 2)))) ≡ insertion 1 (num (pos 2)) ∷ insertion 3 (num (pos 2)) ∷ []
+    changes (composite_follow (0 ∷ 0 ∷ []) (λ list. one_insert 1 1 (num (pos 2))))
+    ≡ insertion 1 (num (pos 2)) ∷ insertion 3 (num (pos 2)) ∷ []
 twice_a_member = refl
 
-taken_out_of_two : changes (detach_told (0 ∷ 1 ∷ []) (λ list. one_two_three) 0) ≡ delete 0 (num (pos 1)) ∷ delete 0 (num (pos 2)) ∷ delete 0 (num (pos 3)) ∷ []
+taken_out_of_two : changes (detach_told (0 ∷ 1 ∷ []) (λ list. one_two_three) 0)
+    ≡ delete 0 (num (pos 1)) ∷ delete 0 (num (pos 2)) ∷ delete 0 (num (pos 3)) ∷ []
 taken_out_of_two = refl

@@ -14,7 +14,8 @@ sorted_view compare xs = map (element_at xs) (arrangement compare xs)
 
 -- whether a pair stands before another one in the new order exactly where it does in the old one
 abbrev pub keeps_order : Comparison → List Tree → List Tree → Pair → Pair → Bool
-keeps_order compare xs ys p q = agree (is_before compare xs p.old q.old) (is_before compare ys p.new q.new)
+keeps_order compare xs ys p q =
+    agree (is_before compare xs p.old q.old) (is_before compare ys p.new q.new)
   where
     agree : Bool → Bool → Bool
     agree before after = if before then after else not after
@@ -30,25 +31,28 @@ index_of k [] = 0
 index_of k (j ∷ js) = if j == k then 0 else suc (index_of k js)
 
 -- a pair of the input between the sorted places of its elements
-abbrev pub at_sorted_places : Comparison → List Tree → List Tree → Pair → Pair
-at_sorted_places compare xs ys p = record {
+abbrev pub at_sorted_positions : Comparison → List Tree → List Tree → Pair → Pair
+at_sorted_positions compare xs ys p = record {
   old = index_of p.old (arrangement compare xs);
   new = index_of p.new (arrangement compare ys);
   updated = p.updated;
 }
 
 -- pairs in the order of their old places, which are below n
-abbrev pub by_old_place : ℕ → List Pair → List Pair
-by_old_place n ps = flat_map (λ k. filter (λ p. p.old == k) ps) (range_with_len 0 n)
+abbrev pub by_old_position : ℕ → List Pair → List Pair
+by_old_position n ps = flat_map (λ k. filter (λ p. p.old == k) ps) (range_with_len 0 n)
 
 -- the pairs of the sorted list, where the input has these from xs to ys
 abbrev pub sorted_pairs : Comparison → List Tree → List Tree → List Pair → List Pair
-sorted_pairs compare xs ys ps = by_old_place (length xs) (map (at_sorted_places compare xs ys) (filter (stays compare xs ys ps) ps))
+sorted_pairs compare xs ys ps =
+    by_old_position (length xs)
+    (map (at_sorted_positions compare xs ys) (filter (stays compare xs ys ps) ps))
 
 -- the change of a sorted list whose input changes by this delta from these elements
 abbrev pub sorted_follow : Comparison → List Tree → Delta → Delta
 sorted_follow compare xs d =
-    pieces_by (sorted_view compare xs) (sorted_view compare (applied d xs)) (sorted_pairs compare xs (applied d xs) (pairs d))
+    pieces_by (sorted_view compare xs) (sorted_view compare (applied d xs))
+    (sorted_pairs compare xs (applied d xs) (pairs d))
 
 -- the change of a sorted list that gets another order: it pairs nothing
 abbrev pub sorted_change : Comparison → Comparison → List Tree → Delta

@@ -21,7 +21,8 @@ unique_view compare xs = map (shown_member xs) (classes compare xs)
 abbrev pub unique_follow : Comparison → List Tree → Delta → Delta
 unique_follow compare xs d =
     pieces_by (unique_view compare xs) (unique_view compare (applied d xs))
-    (class_pairs compare xs (applied d xs) (λ c e. is_plain_pair (pairs d) (first_of c) (first_of e)))
+    (class_pairs compare xs (applied d xs)
+    (λ c e. is_plain_pair (pairs d) (first_of c) (first_of e)))
 
 -- the change of a unique list that gets another order: it pairs nothing
 abbrev pub unique_change : Comparison → Comparison → List Tree → Delta

@@ -1,16 +1,13 @@
 //! Commands for the four lists of a small plan.
 
 ghost use Rattle.std.specs.Prelude.{◌≡◌, ◌<◌, ◌≤◌, length, IsTrue, IfSome};
-ghost use Rattle.spec_plans.specs.Plan.{origin};
+ghost use Rattle.spec_states.specs.Plan.{origin};
 ghost use Rattle.spec_states.specs.State.{own_at, opening_of};
 ghost use Rattle.spec_states.specs.Opening.{opening, shown_first};
 ghost use Rattle.gl_graph.specs.Commands.{Suits, IsEdit};
 
 use super::{above_one, add, planned, plus, range, source, ten_more};
-use gl_lang::{Bounds, Matcher};
-use gl_lines::{Command, Line, ListKind};
-use gl_plan::Plan;
-use gl_value::{Items, Value, Values};
+use gl_plan::{Bounds, Command, Items, Line, ListKind, Matcher, Plan, Value, Values};
 use std::process::Abort;
 
 // The lists of the plan below, by number.
@@ -142,7 +139,8 @@ fn suits(_plan: &Plan, command: &Command, kind: &ListKind) -> bool
 // Whether the command is about a list of the plan, which is of the kind that it is for.
 pub(super) fn fits(plan: &Plan, command: &Command) -> bool
     ensures within { IsTrue result → origin command.now < length (opening plan.now) }
-    ensures suits { IsTrue result → Suits command.now (own_at (opening plan.now) (origin command.now)) }
+    ensures suits { IsTrue result
+        → Suits command.now (own_at (opening plan.now) (origin command.now)) }
 {
     match about(command) {
         Some(list) => match plan.lists().get(list as usize) {

@@ -2,7 +2,7 @@
 
 ghost use Rattle.std.specs.Prelude.{◌<◌, length};
 
-use gl_delta::Deltas;
+use gl_kernels::Deltas;
 use gl_testing::Told;
 
 // Whether a delta with these cells is told of a list, or, where these are none, no delta.

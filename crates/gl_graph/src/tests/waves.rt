@@ -1,7 +1,7 @@
 //! Commands, and what they do to the lists of a small plan.
 
 ghost use Rattle.std.specs.Prelude.{◌≡◌, ◌<◌, ◌≤◌, length};
-ghost use Rattle.spec_plans.specs.Plan.{origin};
+ghost use Rattle.spec_states.specs.Plan.{origin};
 ghost use Rattle.spec_states.specs.State.{own_at};
 ghost use Rattle.gl_graph.specs.Graph.{state_of};
 ghost use Rattle.gl_graph.specs.Commands.{Suits};
@@ -10,12 +10,9 @@ use super::commands::{ALL, Ask, command, fits, four};
 use super::told::tells;
 use super::{built, shows};
 use crate::{Graph, Refused, Wave};
-use gl_delta::Deltas;
-use gl_lang::Bounds;
-use gl_lines::Command;
-use gl_plan::Plan;
+use gl_kernels::Deltas;
+use gl_plan::{Bounds, Command, Plan, Steps};
 use gl_testing::Told;
-use gl_value::Steps;
 use std::marker::Brand;
 use std::process::Abort;
 use std::sync::ledger::{Blank, Ledger};
@@ -133,146 +130,152 @@ fn refused(rt: &(impl Abort + AllocGlobal), plan: &Plan, ask: Ask<'_>) -> Refuse
     why
 }
 
+/// Edits of the source.
+const SOURCE_EDITS: [Row<'static>; 8] = [
+    Row {
+        what: "an insertion in front",
+        ask: Ask::Insert(0, 5),
+        shows: [&[15, 12, 13], &[5, 2, 3], &[5, 1, 2, 3], &[2, 3]],
+        told: [
+            &[Told::Insert(15), Told::Keep(2)],
+            &[Told::Insert(5), Told::Keep(2)],
+            &[Told::Insert(5), Told::Keep(3)],
+            &[],
+        ],
+    },
+    Row {
+        what: "another value, which the filter hides",
+        ask: Ask::Set(1, 0),
+        shows: [&[13], &[3], &[1, 0, 3], &[0, 3]],
+        told: [
+            &[Told::Delete(12), Told::Keep(1)],
+            &[Told::Delete(2), Told::Keep(1)],
+            &[Told::Keep(1), Told::Update(2, 0), Told::Keep(1)],
+            &[Told::Update(2, 0), Told::Keep(1)],
+        ],
+    },
+    Row {
+        what: "another value, of which the other lists don't hear",
+        ask: Ask::Set(0, 0),
+        shows: [&[12, 13], &[2, 3], &[0, 2, 3], &[2, 3]],
+        told: [&[], &[], &[Told::Update(1, 0), Told::Keep(2)], &[]],
+    },
+    Row {
+        what: "the last one removed",
+        ask: Ask::Remove(2),
+        shows: [&[12], &[2], &[1, 2], &[1, 2]],
+        told: [
+            &[Told::Keep(1), Told::Delete(13)],
+            &[Told::Keep(1), Told::Delete(3)],
+            &[Told::Keep(2), Told::Delete(3)],
+            &[Told::Insert(1), Told::Keep(1), Told::Delete(3)],
+        ],
+    },
+    Row {
+        what: "all removed",
+        ask: Ask::Clear,
+        shows: [&[], &[], &[], &[]],
+        told: [
+            &[Told::Delete(12), Told::Delete(13)],
+            &[Told::Delete(2), Told::Delete(3)],
+            &[Told::Delete(1), Told::Delete(2), Told::Delete(3)],
+            &[Told::Delete(2), Told::Delete(3)],
+        ],
+    },
+    Row {
+        what: "one at the end, which the filter hides",
+        ask: Ask::Add(0),
+        shows: [&[12, 13], &[2, 3], &[1, 2, 3, 0], &[3, 0]],
+        told: [
+            &[],
+            &[],
+            &[Told::Keep(3), Told::Insert(0)],
+            &[Told::Delete(2), Told::Keep(1), Told::Insert(0)],
+        ],
+    },
+    Row {
+        what: "two at the end",
+        ask: Ask::AddAll(&[4, 1]),
+        shows: [&[12, 13, 14], &[2, 3, 4], &[1, 2, 3, 4, 1], &[4, 1]],
+        told: [
+            &[Told::Keep(2), Told::Insert(14)],
+            &[Told::Keep(2), Told::Insert(4)],
+            &[Told::Keep(3), Told::Insert(4), Told::Insert(1)],
+            &[
+                Told::Delete(2),
+                Told::Delete(3),
+                Told::Insert(4),
+                Told::Insert(1),
+            ],
+        ],
+    },
+    Row {
+        what: "none at the end",
+        ask: Ask::AddAll(&[]),
+        shows: [&[12, 13], &[2, 3], &[1, 2, 3], &[2, 3]],
+        told: [&[], &[], &[], &[]],
+    },
+];
+
 #[test]
 fn edits_of_a_source(rt: HostRuntime) {
     let plan = four(&rt, 10);
-    for row in [
-        Row {
-            what: "an insertion in front",
-            ask: Ask::Insert(0, 5),
-            shows: [&[15, 12, 13], &[5, 2, 3], &[5, 1, 2, 3], &[2, 3]],
-            told: [
-                &[Told::Insert(15), Told::Keep(2)],
-                &[Told::Insert(5), Told::Keep(2)],
-                &[Told::Insert(5), Told::Keep(3)],
-                &[],
-            ],
-        },
-        Row {
-            what: "another value, which the filter hides",
-            ask: Ask::Set(1, 0),
-            shows: [&[13], &[3], &[1, 0, 3], &[0, 3]],
-            told: [
-                &[Told::Delete(12), Told::Keep(1)],
-                &[Told::Delete(2), Told::Keep(1)],
-                &[Told::Keep(1), Told::Update(2, 0), Told::Keep(1)],
-                &[Told::Update(2, 0), Told::Keep(1)],
-            ],
-        },
-        Row {
-            what: "another value, of which the other lists don't hear",
-            ask: Ask::Set(0, 0),
-            shows: [&[12, 13], &[2, 3], &[0, 2, 3], &[2, 3]],
-            told: [&[], &[], &[Told::Update(1, 0), Told::Keep(2)], &[]],
-        },
-        Row {
-            what: "the last one removed",
-            ask: Ask::Remove(2),
-            shows: [&[12], &[2], &[1, 2], &[1, 2]],
-            told: [
-                &[Told::Keep(1), Told::Delete(13)],
-                &[Told::Keep(1), Told::Delete(3)],
-                &[Told::Keep(2), Told::Delete(3)],
-                &[Told::Insert(1), Told::Keep(1), Told::Delete(3)],
-            ],
-        },
-        Row {
-            what: "all removed",
-            ask: Ask::Clear,
-            shows: [&[], &[], &[], &[]],
-            told: [
-                &[Told::Delete(12), Told::Delete(13)],
-                &[Told::Delete(2), Told::Delete(3)],
-                &[Told::Delete(1), Told::Delete(2), Told::Delete(3)],
-                &[Told::Delete(2), Told::Delete(3)],
-            ],
-        },
-        Row {
-            what: "one at the end, which the filter hides",
-            ask: Ask::Add(0),
-            shows: [&[12, 13], &[2, 3], &[1, 2, 3, 0], &[3, 0]],
-            told: [
-                &[],
-                &[],
-                &[Told::Keep(3), Told::Insert(0)],
-                &[Told::Delete(2), Told::Keep(1), Told::Insert(0)],
-            ],
-        },
-        Row {
-            what: "two at the end",
-            ask: Ask::AddAll(&[4, 1]),
-            shows: [&[12, 13, 14], &[2, 3, 4], &[1, 2, 3, 4, 1], &[4, 1]],
-            told: [
-                &[Told::Keep(2), Told::Insert(14)],
-                &[Told::Keep(2), Told::Insert(4)],
-                &[Told::Keep(3), Told::Insert(4), Told::Insert(1)],
-                &[
-                    Told::Delete(2),
-                    Told::Delete(3),
-                    Told::Insert(4),
-                    Told::Insert(1),
-                ],
-            ],
-        },
-        Row {
-            what: "none at the end",
-            ask: Ask::AddAll(&[]),
-            shows: [&[12, 13], &[2, 3], &[1, 2, 3], &[2, 3]],
-            told: [&[], &[], &[], &[]],
-        },
-    ] {
+    for row in SOURCE_EDITS {
         moved(&rt, &plan, row);
     }
 }
+
+/// Other parameters.
+const PARAMETERS: [Row<'static>; 3] = [
+    Row {
+        what: "a matcher of nothing",
+        ask: Ask::MatchNothing,
+        shows: [&[], &[], &[1, 2, 3], &[2, 3]],
+        told: [
+            &[Told::Delete(12), Told::Delete(13)],
+            &[Told::Delete(2), Told::Delete(3)],
+            &[],
+            &[],
+        ],
+    },
+    Row {
+        what: "the first two",
+        ask: Ask::Bounds(Bounds::Head(0, 2)),
+        shows: [&[12, 13], &[2, 3], &[1, 2, 3], &[1, 2]],
+        told: [
+            &[],
+            &[],
+            &[],
+            &[Told::Insert(1), Told::Keep(1), Told::Delete(3)],
+        ],
+    },
+    Row {
+        what: "twenty more",
+        ask: Ask::Apply(20),
+        shows: [&[22, 23], &[2, 3], &[1, 2, 3], &[2, 3]],
+        told: [&[Told::Update(12, 22), Told::Update(13, 23)], &[], &[], &[]],
+    },
+];
 
 #[test]
 fn other_parameters(rt: HostRuntime) {
     let plan = four(&rt, 3);
-    for row in [
-        Row {
-            what: "a matcher of nothing",
-            ask: Ask::MatchNothing,
-            shows: [&[], &[], &[1, 2, 3], &[2, 3]],
-            told: [
-                &[Told::Delete(12), Told::Delete(13)],
-                &[Told::Delete(2), Told::Delete(3)],
-                &[],
-                &[],
-            ],
-        },
-        Row {
-            what: "the first two",
-            ask: Ask::Bounds(Bounds::Head(0, 2)),
-            shows: [&[12, 13], &[2, 3], &[1, 2, 3], &[1, 2]],
-            told: [
-                &[],
-                &[],
-                &[],
-                &[Told::Insert(1), Told::Keep(1), Told::Delete(3)],
-            ],
-        },
-        Row {
-            what: "twenty more",
-            ask: Ask::Apply(20),
-            shows: [&[22, 23], &[2, 3], &[1, 2, 3], &[2, 3]],
-            told: [&[Told::Update(12, 22), Told::Update(13, 23)], &[], &[], &[]],
-        },
-    ] {
+    for row in PARAMETERS {
         moved(&rt, &plan, row);
     }
 }
 
 #[test]
-fn places_outside_a_source(rt: HostRuntime) {
+fn positions_outside_a_source(rt: HostRuntime) {
     let plan = four(&rt, 3);
-    for (ask, place) in [
+    for (ask, position) in [
         (Ask::Insert(4, 9), 4),
         (Ask::Set(3, 9), 3),
         (Ask::Remove(3), 3),
     ] {
         match refused(&rt, &plan, ask) {
-            Refused::OutOfRange { index, len } => assert_eq!(rt; (index, len), (place, 3)),
-            _ => panic!(rt; "refused otherwise at {place}"),
+            Refused::OutOfRange { index, len } => assert_eq!(rt; (index, len), (position, 3)),
+            _ => panic!(rt; "refused otherwise at {position}"),
         }
     }
 }

@@ -1,7 +1,7 @@
 use Rattle.std.proofs.Common.{◌-◌, length, sym, subst}
 use Rattle.gl_app.specs.Answer.{text_at}
 use Rattle.gl_app.specs.Call.{IsAhead}
-use Rattle.gl_app.proofs.CallLaws.{is_answer, quiet_answer, reports_run, writes_plan, usage_without_form, not_ahead, read_by_status, room_for}
+use Rattle.gl_app.proofs.CallOutcomes.{is_answer, quiet_answer, reports_run, writes_plan, usage_without_form, not_ahead, read_by_status, room_for}
 use Rattle.gl_app.proofs.call.plain.Goals as goal
 
 pub returns-in-Ok-clause-answer : goal.returns-in-Ok-clause-answer

@@ -1,6 +1,6 @@
 use Rattle.std.proofs.Common.{◌∙◌}
-use Rattle.gl_text.proofs.CutLaws.{cut_shorter}
-use Rattle.gl_app.proofs.WordLaws.{actor_skipped, no_actor_here, last_here}
+use Rattle.gl_syntax.proofs.LineCuts.{cut_shorter}
+use Rattle.gl_app.proofs.SpelledWords.{actor_skipped, no_actor_here, last_here}
 use Rattle.gl_app.proofs.form.spells_actors.Goals as goal
 
 pub returns-in_default-read_actor : goal.returns-in_default-read_actor

@@ -1,5 +1,5 @@
 use Rattle.gl_app.specs.Words.{request_of}
-use Rattle.gl_app.proofs.CallLaws.{too_large_answer}
+use Rattle.gl_app.proofs.CallOutcomes.{too_large_answer}
 use Rattle.gl_app.proofs.outcome.answer_source.Goals as goal
 
 pub returns-in-Err-TooLarge-clause-answer : goal.returns-in-Err-TooLarge-clause-answer

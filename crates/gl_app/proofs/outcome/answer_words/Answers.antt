@@ -1,8 +1,8 @@
 use Rattle.std.proofs.Common.{rules, ◌≡◌, true, false}
 use Rattle.std.specs.Prelude.{is_some}
 use Rattle.gl_app.specs.Words.{asked}
-use Rattle.gl_app.proofs.CallLaws.{usage_answer}
-use Rattle.gl_app.proofs.WordLaws.{formed, unformed}
+use Rattle.gl_app.proofs.CallOutcomes.{usage_answer}
+use Rattle.gl_app.proofs.SpelledWords.{formed, unformed}
 use Rattle.gl_app.proofs.outcome.answer_words.Goals as goal
 
 pub returns-then-not-have_form-clause-answer : goal.returns-then-not-have_form-clause-answer

@@ -1,8 +1,8 @@
 use Rattle.std.proofs.Common.{◌≡◌, ◌++◌, length, take, arith, length-append}
 use Rattle.std.proofs.lemmas.List.{length-take-le}
 use Rattle.std.proofs.KnownBytes.{Consumes-trans}
-use Rattle.gl_outside.specs.declared.source.Taken.TheVariants.{Some as Front, End}
-use Rattle.gl_outside.proofs.SourceLemmas.{read_whole}
+use Rattle.gl_outside.specs.declared.source.Taken.TheVariants.{Some as Beginning, End}
+use Rattle.gl_outside.proofs.Sources.{read_whole}
 use Rattle.gl_app.proofs.reading.read_all.Goals as goal
 
 pub returns-in-End-clause-whole : goal.returns-in-End-clause-whole
@@ -15,7 +15,7 @@ pub returns-in-Some-eq0-clause-whole : goal.returns-in-Some-eq0-clause-whole
 returns-in-Some-eq0-clause-whole g c =
     let before = c.reading.invariant in
     let now = c.in-Some-eq0.ensures in (
-      read_whole _ _ _ c.reading.bytes c.take.new.room (Front c.in-Some-eq0.field-0) before.read now.bytes now.end
+      read_whole _ _ _ c.reading.bytes c.take.new.room (Beginning c.in-Some-eq0.field-0) before.read now.bytes now.end
           c.in-Some-eq0.field-0-test,
       before.within,
     )

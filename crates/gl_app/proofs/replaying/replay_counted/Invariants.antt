@@ -1,5 +1,5 @@
 use Rattle.std.proofs.Common.{◌≡◌, take, drop}
-use Rattle.spec_runs.specs.Fits.{bad_place_from, first_bad_place}
+use Rattle.spec_reports.specs.Fits.{bad_place_from, first_bad_place}
 use Rattle.gl_app.proofs.replaying.replay_counted.Given as goal
 
 -- the entries so far, and what is still to be judged

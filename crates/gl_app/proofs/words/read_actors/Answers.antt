@@ -1,7 +1,7 @@
 use Rattle.std.proofs.Common.{◌∙◌, ap}
 use Rattle.std.specs.Prelude.{Some, None}
-use Rattle.gl_text.proofs.CutLaws.{cut_shorter}
-use Rattle.gl_app.proofs.WordLaws.{actor_more, no_actor, last_actor}
+use Rattle.gl_syntax.proofs.LineCuts.{cut_shorter}
+use Rattle.gl_app.proofs.SpelledWords.{actor_more, no_actor, last_actor}
 use Rattle.gl_app.proofs.words.read_actors.Goals as goal
 
 pub returns-in_default-read_actor : goal.returns-in_default-read_actor

@@ -1,7 +1,7 @@
 use Rattle.std.proofs.Common.{◌≤◌, arith}
 use Rattle.spec_lists.specs.Changes.{changed_len}
 use Rattle.gl_delta.specs.Pieces.{pieces}
-use Rattle.gl_delta.proofs.CursorLemmas.{passed_all}
+use Rattle.gl_delta.proofs.Cursors.{passed_all}
 use Rattle.gl_delta.proofs.absorb.absorb_deletions.Goals as goal
 
 pub returns-clause-none_deleted : goal.returns-clause-none_deleted

@@ -1,4 +1,4 @@
-use Rattle.spec_lists.proofs.Joining.{composition_joins_pairs as law}
+use Rattle.spec_lists.proofs.Joins.{composition_joins_pairs as law}
 use Rattle.gl_delta.proofs.laws.composition_joins_pairs.Goals as goal
 
 pub returns : goal.returns

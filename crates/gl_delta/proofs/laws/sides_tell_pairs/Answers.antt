@@ -1,4 +1,4 @@
-use Rattle.spec_lists.proofs.Pairing.{sides_tell_pairs as law}
+use Rattle.spec_lists.proofs.Pairs.{sides_tell_pairs as law}
 use Rattle.gl_delta.proofs.laws.sides_tell_pairs.Goals as goal
 
 pub returns : goal.returns

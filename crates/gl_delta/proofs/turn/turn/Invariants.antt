@@ -1,5 +1,5 @@
 use Rattle.std.proofs.Common.{◌≡◌, ◌≤◌, ◌-◌, length}
-use Rattle.gl_delta.specs.Turns.{Turning}
+use Rattle.gl_delta.specs.DependencyOrder.{Turning}
 use Rattle.gl_delta.proofs.turn.turn.Given as goal
 
 abbrev pub invariant-gaps : goal.invariant-gaps

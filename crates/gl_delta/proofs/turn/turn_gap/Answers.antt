@@ -1,13 +1,13 @@
 use Rattle.std.proofs.Common.{◌≡◌, ◌∙◌, ◌+◌, ◌-◌, ◌<◌, refl, arith}
 use Rattle.gl_fourcolour.specs.Colours.{painted}
-use Rattle.gl_delta.proofs.TurnLemmas.{gap_is, gap_insertions, gap_deletions, gap_room, gap_len, gap_turns, gap_none}
+use Rattle.gl_delta.proofs.InverseColours.{gap_is, gap_insertions, gap_deletions, gap_room, gap_len, gap_order, gap_none}
 use Rattle.gl_delta.proofs.turn.turn_gap.Goals as goal
 
 pub returns-then-start-end-clause-turning : goal.returns-then-start-end-clause-turning
 returns-then-start-end-clause-turning c =
     λ start t.
     let g = gap_is start c.args.colours.now c.args.at c.next-start.result c.next-end.result c.requires.more t c.len-below.ensures.colours c.next-start.ensures.reached c.next-end.ensures.reached in
-    gap_turns start c.args.colours.now c.args.colours.now c.args.at c.next-start.result c.next-end.result g (gap_none start c.args.colours.now c.args.at c.next-start.result c.next-end.result g c.if-start-end.true) refl
+    gap_order start c.args.colours.now c.args.colours.now c.args.at c.next-start.result c.next-end.result g (gap_none start c.args.colours.now c.args.at c.next-start.result c.next-end.result g c.if-start-end.true) refl
 
 pub returns-then-start-end-clause-goes : goal.returns-then-start-end-clause-goes
 returns-then-start-end-clause-goes c =
@@ -68,7 +68,7 @@ returns-then-deleted-inserted-clause-turning c =
     let d_is : D ≡ g.d = omega (arith, c.rank.ensures, c.rank-2.ensures, g.count_is) in
     let i_is : I ≡ g.i = omega (arith, d_is, g.end_is) in
     let done = gap_insertions start c.args.colours.now c.args.at c.next-start.result c.next-end.result D I g d_is i_is c.if-deleted-inserted.true in
-    gap_turns start c.args.colours.now c.paint_reserved.new.self c.args.at c.next-start.result c.next-end.result g (c.paint_reserved.ensures.colours ∙ done) c.paint_reserved.ensures.room
+    gap_order start c.args.colours.now c.paint_reserved.new.self c.args.at c.next-start.result c.next-end.result g (c.paint_reserved.ensures.colours ∙ done) c.paint_reserved.ensures.room
 
 pub returns-then-deleted-inserted-clause-within : goal.returns-then-deleted-inserted-clause-within
 returns-then-deleted-inserted-clause-within c =
@@ -103,7 +103,7 @@ returns-else-deleted-inserted-clause-turning c =
     let d_is : D ≡ g.d = omega (arith, c.rank.ensures, c.rank-2.ensures, g.count_is) in
     let i_is : I ≡ g.i = omega (arith, d_is, g.end_is) in
     let done = gap_deletions start c.args.colours.now c.args.at c.next-start.result c.next-end.result D I g d_is i_is (omega (arith, c.if-deleted-inserted.false)) in
-    gap_turns start c.args.colours.now c.paint_reserved-else-deleted-inserted.new.self c.args.at c.next-start.result c.next-end.result g (c.paint_reserved-else-deleted-inserted.ensures.colours ∙ done) c.paint_reserved-else-deleted-inserted.ensures.room
+    gap_order start c.args.colours.now c.paint_reserved-else-deleted-inserted.new.self c.args.at c.next-start.result c.next-end.result g (c.paint_reserved-else-deleted-inserted.ensures.colours ∙ done) c.paint_reserved-else-deleted-inserted.ensures.room
 
 pub returns-else-deleted-inserted-clause-goes : goal.returns-else-deleted-inserted-clause-goes
 returns-else-deleted-inserted-clause-goes c =

@@ -1,4 +1,4 @@
-use Rattle.gl_delta.proofs.StoreLemmas.{put_again}
+use Rattle.gl_delta.proofs.Stores.{put_again}
 use Rattle.gl_delta.proofs.values.take_values.Goals as goal
 
 pub returns-in-Updated-clause-olds : goal.returns-in-Updated-clause-olds

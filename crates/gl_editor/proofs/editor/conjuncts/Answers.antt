@@ -1,4 +1,4 @@
-use Rattle.spec_lang.proofs.KindLaws.{conjuncts-both}
+use Rattle.spec_lang.proofs.KindCases.{conjuncts-both}
 use Rattle.gl_editor.proofs.editor.conjuncts.Goals as goal
 
 pub returns-in-And : goal.returns-in-And

@@ -1,7 +1,7 @@
 use Rattle.std.proofs.Common.{sym, subst}
 use Rattle.spec_lang.specs.declared.EditKind.{EditKind}
 use Rattle.spec_lang.specs.Kind as spec
-use Rattle.spec_lang.proofs.KindLaws.{kind_says}
+use Rattle.spec_lang.proofs.KindCases.{kind_says}
 use Rattle.gl_editor.proofs.editor.kind.Goals as goal
 
 pub returns-clause-meaning : goal.returns-clause-meaning

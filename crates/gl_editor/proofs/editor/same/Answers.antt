@@ -1,4 +1,4 @@
-use Rattle.spec_lang.proofs.KindLaws.{same_decided}
+use Rattle.spec_lang.proofs.KindCases.{same_decided}
 use Rattle.gl_editor.proofs.editor.same.Goals as goal
 
 pub returns : goal.returns

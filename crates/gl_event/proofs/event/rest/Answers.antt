@@ -1,8 +1,8 @@
 use Rattle.std.proofs.Common.{◌∙◌, ap, arith}
 use Rattle.spec_lists.specs.Changes.{after_changes}
 use Rattle.gl_event.specs.Changes.{changes_in, new_count}
-use Rattle.gl_event.proofs.CellLemmas.{changes_cells, new_count-cells}
-use Rattle.gl_event.proofs.BlockLemmas.{changes_left, new_len-standing}
+use Rattle.gl_event.proofs.Cells.{changes_cells, new_count-cells}
+use Rattle.gl_event.proofs.Blocks.{changes_left, new_len-standing}
 use Rattle.gl_event.proofs.event.rest.Goals as goal
 
 pub returns-clause-changes : goal.returns-clause-changes

@@ -3,7 +3,7 @@ use Rattle.spec_lists.specs.Cells.{update, delete}
 use Rattle.gl_delta.specs.declared.cell.CellRef.{CellRef}
 use Rattle.gl_delta.specs.Cells.{cell_ref, cells_rest}
 use Rattle.gl_event.specs.Replay.{old_count}
-use Rattle.gl_event.proofs.CellLemmas.{updated_more, deleted_more}
+use Rattle.gl_event.proofs.Cells.{updated_more, deleted_more}
 use Rattle.gl_event.proofs.replaying.applied.Goals as goal
 
 pub loop-cell-preserved-in-Update : goal.loop-cell-preserved-in-Update

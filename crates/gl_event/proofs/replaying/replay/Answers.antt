@@ -1,8 +1,8 @@
 use Rattle.std.proofs.Common.{◌∙◌, length, ap, arith}
-use Rattle.spec_lists.proofs.Leading.{length_from}
+use Rattle.spec_lists.proofs.DeltaLeads.{length_from}
 use Rattle.spec_lists.specs.Cells.{cells_of}
 use Rattle.gl_event.specs.Replay.{applied_cells, old_count}
-use Rattle.gl_event.proofs.CellLemmas.{old_count-cells, replay_is}
+use Rattle.gl_event.proofs.Cells.{old_count-cells, replay_is}
 use Rattle.gl_event.proofs.replaying.replay.Goals as goal
 
 pub applied-requires : goal.applied-requires

@@ -1,5 +1,5 @@
 use Rattle.std.proofs.Common.{◌∙◌, map, ap, sym}
-use Rattle.spec_lang.specs.Matcher.{accepts}
+use Rattle.spec_views.specs.Matcher.{accepts}
 use Rattle.gl_filter.proofs.Cases.{leads_to, old_again}
 use Rattle.gl_filter.proofs.tests.follows.Goals as goal
 

@@ -9,17 +9,17 @@ pub close_gap-requires : goal.close_gap-requires
 close_gap-requires g c =
     let r = c.requires in
     record {
-      front = r.front;
+      prefix = r.prefix;
       run = r.run;
       back = r.back;
-      is = c.remove.ensures.runs ∙ remove_here _ r.front r.back r.run c.args.place r.is r.place_is;
-      place_is = r.place_is;
+      is = c.remove.ensures.runs ∙ remove_here _ r.prefix r.back r.run c.args.position r.is r.position_is;
+      position_is = r.position_is;
       few_colours = r.few_colours;
       maximal = subst (λ rs. IsMaximal g.row.C rs) r.is r.maximal;
-      small = omega (arith, r.small, ap (λ rs. length (expanded rs)) r.is, ap (λ rs. length (expanded rs)) (c.remove.ensures.runs ∙ remove_here _ r.front r.back r.run c.args.place r.is r.place_is), length-expanded-append r.front (r.run ∷ r.back), length-expanded-cons r.run r.back, length-expanded-append r.front r.back);
+      small = omega (arith, r.small, ap (λ rs. length (expanded rs)) r.is, ap (λ rs. length (expanded rs)) (c.remove.ensures.runs ∙ remove_here _ r.prefix r.back r.run c.args.position r.is r.position_is), length-expanded-append r.prefix (r.run ∷ r.back), length-expanded-cons r.run r.back, length-expanded-append r.prefix r.back);
     }
 
 pub returns : goal.returns
-returns g c = λ front back r is place_is.
-    let out = c.close_gap.ensures front back r (c.remove.ensures.runs ∙ remove_here _ front back r c.args.place is place_is) (subst (λ rs. IsMaximal g.row.C rs) is c.requires.maximal) place_is in
-    record { maximal = out.maximal; colours = out.colours; fewer = omega (arith, out.fewer, ap length (c.remove.ensures.runs ∙ remove_here _ front back r c.args.place is place_is), ap length is, length-append front back, length-append front (r ∷ back)); room = out.room ∙ c.remove.ensures.room }
+returns g c = λ prefix back r is position_is.
+    let out = c.close_gap.ensures prefix back r (c.remove.ensures.runs ∙ remove_here _ prefix back r c.args.position is position_is) (subst (λ rs. IsMaximal g.row.C rs) is c.requires.maximal) position_is in
+    record { maximal = out.maximal; colours = out.colours; fewer = omega (arith, out.fewer, ap length (c.remove.ensures.runs ∙ remove_here _ prefix back r c.args.position is position_is), ap length is, length-append prefix back, length-append prefix (r ∷ back)); room = out.room ∙ c.remove.ensures.room }

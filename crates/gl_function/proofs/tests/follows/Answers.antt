@@ -1,6 +1,6 @@
 use Rattle.std.proofs.Common.{◌∙◌, map, ap, sym}
 use Rattle.spec_lang.specs.Func.{eval}
-use Rattle.gl_testing.proofs.Leading.{to_new}
+use Rattle.gl_testing.proofs.Leads.{to_new}
 use Rattle.gl_function.proofs.tests.follows.Goals as goal
 
 pub advance-requires-clause-leads : goal.advance-requires-clause-leads

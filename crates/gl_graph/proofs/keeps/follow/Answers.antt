@@ -1,8 +1,8 @@
 use Rattle.std.proofs.Common.{◌≡◌, subst}
 use Rattle.std.specs.Prelude.{IfOk, OnOk}
-use Rattle.gl_delta.specs.Told.{Told}
-use Rattle.spec_lists.specs.Leads.{undone}
-use Rattle.spec_views.specs.View.{follow_of}
+use Rattle.gl_source.specs.Model.{DeltaModel}
+use Rattle.spec_states.specs.Leads.{undone}
+use Rattle.spec_states.specs.View.{follow_of}
 use Rattle.gl_graph.specs.declared.derived.DerivedUndo.{DerivedUndo}
 use Rattle.gl_graph.specs.Derived.{view_of_derived, StandsFor}
 use Rattle.gl_graph.specs.Nodes.{shown_by}
@@ -11,9 +11,9 @@ use Rattle.gl_graph.proofs.keeps.follow.Goals as goal
 
 pub returns-clause-delta : goal.returns-clause-delta
 returns-clause-delta g c =
-    subst (λ (k : Kept). IfOk c.advance.result (λ (told : Told × DerivedUndo). told.0.pieces
-    ≡ follow_of (view_of_derived c.args.derived.now) (undone c.args.d.now.pieces (shown_by k.front k.places k.list)) c.args.d.now.pieces)) c.see-shelf.ensures.seen c.advance.ensures.delta
+    subst (λ (k : Kept). IfOk c.advance.result (λ (told : DeltaModel × DerivedUndo). told.0.pieces
+    ≡ follow_of (view_of_derived c.args.derived.now) (undone c.args.d.now.pieces (shown_by k.prefix k.positions k.list)) c.args.d.now.pieces)) c.see-shelf.ensures.seen c.advance.ensures.delta
 
 pub returns-clause-stands : goal.returns-clause-stands
 returns-clause-stands g c =
-    subst (λ (k : Kept). OnOk c.advance.result (StandsFor c.advance.new.self (shown_by k.front k.places k.list))) c.see-shelf.ensures.seen c.advance.ensures.stands
+    subst (λ (k : Kept). OnOk c.advance.result (StandsFor c.advance.new.self (shown_by k.prefix k.positions k.list))) c.see-shelf.ensures.seen c.advance.ensures.stands

@@ -1,7 +1,7 @@
 use Rattle.std.proofs.Common.{length, subst}
 use Rattle.std.specs.Prelude.{IfErr}
 use Rattle.gl_graph.specs.Opening.{IsOver}
-use Rattle.gl_graph.proofs.Opening.{over_is}
+use Rattle.gl_graph.proofs.Openings.{over_is}
 use Rattle.gl_graph.proofs.open.source_of.Goals as goal
 
 pub returns-in-Err-clause-over : goal.returns-in-Err-clause-over

@@ -1,4 +1,4 @@
-use Rattle.gl_graph.proofs.Editing.{result_made, result_why}
+use Rattle.gl_graph.proofs.Edits.{result_made, result_why}
 use Rattle.gl_graph.proofs.source.edit_source.Goals as goal
 
 pub returns-clause-made : goal.returns-clause-made

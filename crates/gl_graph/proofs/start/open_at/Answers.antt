@@ -6,7 +6,7 @@ use Rattle.spec_states.specs.Opening.{seen_through}
 use Rattle.gl_graph.specs.Nodes.{shown_by, IsPlaced, AreSettled}
 use Rattle.gl_graph.specs.Opening.{IsBuilt}
 use Rattle.gl_graph.specs.Build.{IsOneMore, IsFault, AreOpenTo, IsReasonOf}
-use Rattle.gl_graph.proofs.Starting.{next_within, next_built, next_opened, next_reason}
+use Rattle.gl_graph.proofs.Starts.{next_within, next_built, next_opened, next_reason}
 use Rattle.gl_graph.proofs.start.open_at.Goals as goal
 
 -- the list at a place
@@ -14,11 +14,11 @@ get_at : (xs ys : List ℕ) (k : ℕ) → xs ≡ ys → k < length ys → slice_
 get_at xs ys k same within =
     subst (λ zs. slice_get zs k ≡ Some (slice_index_or xs k 0)) same (slice_get-get_or xs k 0 (subst (λ zs. k < length zs) (sym same) within))
 
-pub bounds-turns-list : goal.bounds-turns-list
-bounds-turns-list g c =
-    let t = c.args.turns.now in
-    let here = get_at t.order.now t.order.now c.args.place refl c.requires.within in
-    next_within t.limit t.lists.now t.places.items t.order.now c.args.place (slice_index_or t.order.now c.args.place 0) c.requires.ready here
+pub bounds-dependency_order-list : goal.bounds-dependency_order-list
+bounds-dependency_order-list g c =
+    let t = c.args.dependency_order.now in
+    let here = get_at t.order.now t.order.now c.args.position refl c.requires.within in
+    next_within t.limit t.lists.now t.positions.items t.order.now c.args.position (slice_index_or t.order.now c.args.position 0) c.requires.ready here
 
 pub open_next-requires-clause-settled : goal.open_next-requires-clause-settled
 open_next-requires-clause-settled g c =
@@ -26,42 +26,42 @@ open_next-requires-clause-settled g c =
 
 pub open_next-requires-clause-built : goal.open_next-requires-clause-built
 open_next-requires-clause-built g c =
-    let t = c.args.turns.now in
-    let list = slice_index_or t.order.now c.args.place 0 in
-    let d = slice_index_or t.lists.now list c.index-turns-list.result in
-    let here = get_at t.order.now t.order.now c.args.place refl c.requires.within in
-    let within = next_within t.limit t.lists.now t.places.items t.order.now c.args.place list c.requires.ready here in
-    let there = slice_get-get_or t.lists.now list c.index-turns-list.result within in
+    let t = c.args.dependency_order.now in
+    let list = slice_index_or t.order.now c.args.position 0 in
+    let d = slice_index_or t.lists.now list c.index-dependency_order-list.result in
+    let here = get_at t.order.now t.order.now c.args.position refl c.requires.within in
+    let within = next_within t.limit t.lists.now t.positions.items t.order.now c.args.position list c.requires.ready here in
+    let there = slice_get-get_or t.lists.now list c.index-dependency_order-list.result within in
     subst (λ ps. IsBuilt (IsPlaced c.args.nodes.now.items ps) d.kind) (sym c.as_slice.ensures.value)
-    (next_built t.limit t.lists.now t.places.items t.order.now c.args.nodes.now.items c.args.place list d c.requires.ready c.requires.opened here there)
+    (next_built t.limit t.lists.now t.positions.items t.order.now c.args.nodes.now.items c.args.position list d c.requires.ready c.requires.opened here there)
 
 pub returns-in_err-open_next-clause-fault : goal.returns-in_err-open_next-clause-fault
 returns-in_err-open_next-clause-fault g c =
-    let t = c.args.turns.now in
+    let t = c.args.dependency_order.now in
     let nodes = c.args.nodes.now.items in
-    let list = slice_index_or t.order.now c.args.place 0 in
-    let d = slice_index_or t.lists.now list c.index-turns-list.result in
+    let list = slice_index_or t.order.now c.args.position 0 in
+    let d = slice_index_or t.lists.now list c.index-dependency_order-list.result in
     let fault = c.in_err-open_next.field-0.0 in
-    let here = get_at t.order.now t.order.now c.args.place refl c.requires.within in
-    let within = next_within t.limit t.lists.now t.places.items t.order.now c.args.place list c.requires.ready here in
-    let there = slice_get-get_or t.lists.now list c.index-turns-list.result within in
-    let is : IsFault t.limit list (length (shown_of (seen_through d.kind) (shown_by nodes t.places.items))) fault =
+    let here = get_at t.order.now t.order.now c.args.position refl c.requires.within in
+    let within = next_within t.limit t.lists.now t.positions.items t.order.now c.args.position list c.requires.ready here in
+    let there = slice_get-get_or t.lists.now list c.index-dependency_order-list.result within in
+    let is : IsFault t.limit list (length (shown_of (seen_through d.kind) (shown_by nodes t.positions.items))) fault =
     subst (λ ps. IsFault t.limit list (length (shown_of (seen_through d.kind) (shown_by nodes ps))) fault) c.as_slice.ensures.value c.in_err-open_next.ensures.fault in
     let reason : IsReasonOf t fault =
-    next_reason t.limit t.lists.now t.places.items t.order.now nodes c.args.place list d fault c.requires.ready c.requires.opened here there is in
+    next_reason t.limit t.lists.now t.positions.items t.order.now nodes c.args.position list d fault c.requires.ready c.requires.opened here there is in
     search rules
 
 pub returns-clause-opened : goal.returns-clause-opened
 returns-clause-opened g c =
-    let t = c.args.turns.now in
+    let t = c.args.dependency_order.now in
     let nodes = c.args.nodes.now.items in
     let after = c.open_next.new.nodes.items in
-    let list = slice_index_or t.order.now c.args.place 0 in
-    let d = slice_index_or t.lists.now list c.index-turns-list.result in
-    let here = get_at t.order.now t.order.now c.args.place refl c.requires.within in
-    let within = next_within t.limit t.lists.now t.places.items t.order.now c.args.place list c.requires.ready here in
-    let there = slice_get-get_or t.lists.now list c.index-turns-list.result within in
-    let more : IsOneMore t.limit t.places.items list (seen_through d.kind) nodes after =
+    let list = slice_index_or t.order.now c.args.position 0 in
+    let d = slice_index_or t.lists.now list c.index-dependency_order-list.result in
+    let here = get_at t.order.now t.order.now c.args.position refl c.requires.within in
+    let within = next_within t.limit t.lists.now t.positions.items t.order.now c.args.position list c.requires.ready here in
+    let there = slice_get-get_or t.lists.now list c.index-dependency_order-list.result within in
+    let more : IsOneMore t.limit t.positions.items list (seen_through d.kind) nodes after =
     subst (λ ps. IsOneMore t.limit ps list (seen_through d.kind) nodes after) c.as_slice.ensures.value c.in_ok-open_next.ensures.more in
-    subst (λ k. AreOpenTo t k after) (sym (add-one c.args.place))
-    (next_opened t.limit t.lists.now t.places.items t.order.now nodes after c.args.place list d c.requires.ready c.requires.opened here there more)
+    subst (λ k. AreOpenTo t k after) (sym (add-one c.args.position))
+    (next_opened t.limit t.lists.now t.positions.items t.order.now nodes after c.args.position list d c.requires.ready c.requires.opened here there more)

@@ -1,6 +1,6 @@
 use Rattle.std.proofs.Common.{ℕ, ◌≡◌, ◌<◌}
 use Rattle.std.specs.Prelude.{Some, slice_get}
-use Rattle.gl_lines.specs.declared.plan.ListDecl.{ListDecl}
+use Rattle.spec_states.specs.ListDecl.{ListDecl}
 use Rattle.gl_graph.specs.Opening.{IsKindBuilt}
 use Rattle.gl_graph.proofs.tests.are_built.Given as goal
 

@@ -1,5 +1,5 @@
 use Rattle.std.specs.Prelude.{All}
-use Rattle.spec_lines.specs.Within.{IsWithin}
+use Rattle.gl_plan.specs.Within.{IsWithin}
 use Rattle.gl_graph.proofs.tests.source.Given as goal
 
 -- all lines so far are within the limits

@@ -1,6 +1,6 @@
 use Rattle.std.proofs.Common.{◌≡◌, ◌≤◌, ◌+◌, ◌*◌, List, length, sym, ap, subst, arith}
 use Rattle.gl_kernel.specs.Edits.{CanPlay}
-use Rattle.gl_kernel.proofs.Playing.{can_play_reserved}
+use Rattle.gl_kernel.proofs.Play.{can_play_reserved}
 use Rattle.gl_kernel.proofs.log.apply.Goals as goal
 
 pub play-requires-clause-can : goal.play-requires-clause-can

@@ -4,7 +4,7 @@ use Rattle.std.proofs.lemmas.List.{length-set}
 use Rattle.gl_kernel.specs.declared.log_step.LogStep.{LogStep}
 use Rattle.gl_kernel.specs.declared.log_step.LogStep.TheVariants.{Insert, Remove, Set}
 use Rattle.gl_kernel.specs.Edits.{IsWithin}
-use Rattle.gl_kernel.proofs.Playing.{remove-insert, insert-remove, set-back, can_go_back}
+use Rattle.gl_kernel.proofs.Play.{remove-insert, insert-remove, set-back, can_go_back}
 use Rattle.gl_kernel.proofs.log.made.Goals as goal
 
 abbrev Within : {T : Type 0} → List T → LogStep T → Type 0

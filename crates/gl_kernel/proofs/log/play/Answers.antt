@@ -1,7 +1,7 @@
 use Rattle.std.proofs.Common.{◌≡◌, ◌∙◌, ◌∷◌, ◌++◌, ℕ, [], ◌+◌, List, length, ap, sym, subst, refl, arith}
 use Rattle.gl_kernel.specs.declared.log_step.LogStep.{LogStep}
 use Rattle.gl_kernel.specs.Edits.{edited, played, CanPlay}
-use Rattle.gl_kernel.proofs.Playing.{played-append, fits_first, can_make_last, can_play_last, can_play_more}
+use Rattle.gl_kernel.proofs.Play.{played-append, fits_first, can_make_last, can_play_last, can_play_more}
 use Rattle.gl_kernel.proofs.log.play.Goals as goal
 
 abbrev Playable : {T : Type 0} → (List T → ℕ) → ℕ → List T → List (LogStep T) → Type 0

@@ -1,4 +1,4 @@
-use Rattle.spec_lang.proofs.SortingLaws.{same_key_equivalence}
+use Rattle.spec_lang.proofs.Sortings.{same_key_equivalence}
 use Rattle.gl_lang.proofs.order.key_classes.Goals as goal
 
 pub returns : goal.returns

@@ -23,7 +23,7 @@ pub returns-in-Err-clause-part : goal.returns-in-Err-clause-part
 returns-in-Err-clause-part g c =
     let before = c.loop-rest.invariant in
     record {
-      front = before.done;
+      prefix = before.done;
       back = c.loop-rest.rest.now;
       whole = before.split;
       appended = Appends-kept _ _ _ _ before.appended c.in-Err.ensures.bytes;
@@ -35,7 +35,7 @@ returns-in-Ok-eq0-clause-part g c =
     let rest = c.loop-rest.rest.now in
     let n = c.in-Ok-eq0.field-0 in
     record {
-      front = before.done ++ take n rest;
+      prefix = before.done ++ take n rest;
       back = drop n rest;
       whole = more_done _ before.done rest n before.split;
       appended = Appends-trans _ _ _ _ _ before.appended c.in-Ok-eq0.ensures.bytes;

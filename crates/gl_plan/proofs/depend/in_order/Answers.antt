@@ -1,5 +1,5 @@
 use Rattle.std.proofs.Common.{length, rules}
-use Rattle.spec_order.specs.Cycle.{IsFirstCycle}
+use Rattle.spec_plans.specs.Cycle.{IsFirstCycle}
 use Rattle.gl_plan.proofs.Circles.{first_within}
 use Rattle.gl_plan.proofs.depend.in_order.Goals as goal
 

@@ -2,7 +2,7 @@ use Rattle.std.proofs.Common.{◌≡◌, ◌+◌, ◌<◌, None, length, get_or,
 use Rattle.std.specs.Prelude.{option_map}
 use Rattle.spec_plans.specs.declared.fault.NameFault.{NameFault}
 use Rattle.spec_plans.specs.NameFaults.{name_fault, naming}
-use Rattle.gl_plan_faults.proofs.Passing.{nothing_said, passed_more}
+use Rattle.gl_plan_faults.proofs.PassedLines.{nothing_said, passed_more}
 use Rattle.gl_plan_faults.proofs.judging.first_misnamed.Goals as goal
 
 pub loop-line-preserved : goal.loop-line-preserved

@@ -1,7 +1,7 @@
 use Rattle.std.proofs.Common.{◌||◌, ap, ◌∙◌}
-use Rattle.spec_order.specs.Turns.{has}
+use Rattle.spec_order.specs.DependencyOrder.{has}
 use Rattle.spec_plans.specs.Names.{numbers_in}
-use Rattle.gl_plan_faults.proofs.Building.{has_both}
+use Rattle.gl_plan_faults.proofs.Built.{has_both}
 use Rattle.gl_plan_faults.proofs.tables.needs_of.Goals as goal
 
 pub returns : goal.returns

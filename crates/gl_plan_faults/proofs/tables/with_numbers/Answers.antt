@@ -1,7 +1,7 @@
 use Rattle.std.proofs.Common.{◌||◌, ap, ◌∙◌}
 use Rattle.std.specs.Prelude.{option_to_list}
-use Rattle.spec_order.specs.Turns.{has}
-use Rattle.gl_plan_faults.proofs.Building.{numbers_more}
+use Rattle.spec_order.specs.DependencyOrder.{has}
+use Rattle.gl_plan_faults.proofs.Built.{numbers_more}
 use Rattle.gl_plan_faults.proofs.tables.with_numbers.Goals as goal
 
 pub loop-named-preserved : goal.loop-named-preserved

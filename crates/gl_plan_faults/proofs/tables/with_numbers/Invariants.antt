@@ -1,5 +1,5 @@
 use Rattle.std.proofs.Common.{◌≡◌, ℕ, ◌||◌, take}
-use Rattle.spec_order.specs.Turns.{has}
+use Rattle.spec_order.specs.DependencyOrder.{has}
 use Rattle.spec_plans.specs.Names.{numbers_in}
 use Rattle.gl_plan_faults.proofs.tables.with_numbers.Given as goal
 

@@ -7,13 +7,13 @@ use Rattle.std.proofs.lemmas.Result.{IfOk-weaker}
 use Rattle.spec_order.specs.Cycle.{IsWalk, IsFirstCycle}
 use Rattle.gl_publisher.specs.Shortest.{IsLeast, IsShortestCycle, distance_to}
 use Rattle.gl_publisher.proofs.Cycles.{no_walk}
-use Rattle.gl_publisher.proofs.Same.{first_from_shortest, walk_same, distances_turned, distances_at, cycle_below}
+use Rattle.gl_publisher.proofs.Same.{first_from_shortest, walk_same, distances_inverse, distances_at, cycle_below}
 use Rattle.gl_publisher.proofs.OpenCounts.{turn}
 use Rattle.gl_publisher.proofs.cycle.first_cycle.Goals as goal
 
 pub distances_to-requires-clause-within : goal.distances_to-requires-clause-within
 distances_to-requires-clause-within c =
-    All-permutation (λ p. p.1 < c.args.n) (map turn c.args.edges.now) c.args.dependents.now c.requires.turned
+    All-permutation (λ p. p.1 < c.args.n) (map turn c.args.edges.now) c.args.dependents.now c.requires.reversed
     (All-map (λ p. p.1 < c.args.n) turn c.args.edges.now (λ k d l. (c.requires.ends k d l).0))
 
 pub least_distance-requires : goal.least_distance-requires
@@ -38,7 +38,7 @@ pub shortest_cycle-requires-clause-exact : goal.shortest_cycle-requires-clause-e
 shortest_cycle-requires-clause-exact c =
     let perm : IsPermutation c.args.edges.now c.new-dependencies.result = search rules in
     distances_at c.in_ok-distances.distances.items c.deref-in-Some.result.now c.deref-in-Some.ensures.value
-    (distances_turned c.args.edges.now c.new-dependencies.result c.args.dependents.now perm c.requires.turned c.in_ok-distances.ensures)
+    (distances_inverse c.args.edges.now c.new-dependencies.result c.args.dependents.now perm c.requires.reversed c.in_ok-distances.ensures)
 
 pub returns-in-Some : goal.returns-in-Some
 returns-in-Some c =
@@ -52,7 +52,7 @@ loop-start-preserved c = λ y l ys w.
     let dependencies = c.new-dependencies.result in
     let start = c.loop-start.start in
     let perm : IsPermutation edges dependencies = search rules in
-    let exact = distances_turned edges dependencies c.args.dependents.now perm c.requires.turned c.in_ok-distances.ensures in
+    let exact = distances_inverse edges dependencies c.args.dependents.now perm c.requires.reversed c.in_ok-distances.ensures in
     let of_part : IsLeast (distance_to c.deref.result.now) (filter (λ p. p.0 == start) dependencies) None =
     subst (λ (ps : List (ℕ × ℕ)). IsLeast (distance_to c.deref.result.now) ps None) c.of.ensures
     (subst (λ (o : Option ℕ). IsLeast (distance_to c.deref.result.now) c.of.result.now o) c.in_default.is c.least_distance.ensures) in

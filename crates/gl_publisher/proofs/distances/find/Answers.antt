@@ -1,6 +1,6 @@
 use Rattle.std.proofs.Common.{◌≡◌, ℕ, ◌+◌, ◌<◌, length, get_or, set, take, not, Option, Some, None, List, [], ◌∷◌, ◌++◌, sym, ap, ◌∙◌, subst, arith, rules}
 use Rattle.gl_publisher.specs.Distances.{distance_of, EndsWith, Finds}
-use Rattle.gl_publisher.proofs.Finding.{finds_pair, finds_new, finds_known, none_read, some_read}
+use Rattle.gl_publisher.proofs.Finds.{finds_pair, finds_new, finds_known, none_read, some_read}
 use Rattle.gl_publisher.proofs.distances.find.Goals as goal
 use Rattle.gl_publisher.proofs.distances.find.Goals.{then-is_none+in_ok-push, else-is_none}
 

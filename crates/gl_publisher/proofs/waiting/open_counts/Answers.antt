@@ -1,5 +1,5 @@
 use Rattle.std.proofs.Common.{◌<◌, ◌==◌, length, get_or, arith}
-use Rattle.gl_publisher.proofs.Counting.{count_fits}
+use Rattle.gl_publisher.proofs.Counts.{count_fits}
 use Rattle.gl_publisher.proofs.waiting.open_counts.Goals as goal
 
 pub overflow_add-index_mut : goal.overflow_add-index_mut

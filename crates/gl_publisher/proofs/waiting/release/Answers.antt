@@ -1,5 +1,5 @@
 use Rattle.std.proofs.Common.{◌<◌, length, get_or, slice_index, refl, arith}
-use Rattle.gl_publisher.proofs.Counting.{count_left}
+use Rattle.gl_publisher.proofs.Counts.{count_left}
 use Rattle.gl_publisher.proofs.waiting.release.Goals as goal
 
 pub overflow_sub-count : goal.overflow_sub-count

@@ -1,14 +1,14 @@
 use Rattle.std.proofs.Common.{◌≡◌, ◌∙◌, ◌++◌, ◌+◌, ap, sym, arith}
-use Rattle.spec_lists.specs.Piece.{old_len, new_len, normal}
-use Rattle.spec_lists.specs.Cells.{pieces_in}
-use Rattle.spec_lists.proofs.Normal.{normal_is}
-use Rattle.spec_lists.proofs.Changing.{old_len-append, new_len-append}
+use Rattle.spec_views.specs.Piece.{old_len, new_len, normal}
+use Rattle.spec_views.specs.Cells.{pieces_in}
+use Rattle.spec_views.proofs.Normal.{normal_is}
+use Rattle.spec_views.proofs.DeltaChanges.{old_len-append, new_len-append}
 use Rattle.gl_delta.specs.Cells.{cell_ref, cells_rest}
 use Rattle.gl_kernel.specs.Spread.{spread}
-use Rattle.gl_kernel.proofs.Spreading.{spread-cells, told_more}
-use Rattle.gl_kernel.proofs.Making.{append_nothing}
+use Rattle.gl_kernel.proofs.Spreads.{spread-cells, told_more}
+use Rattle.gl_kernel.proofs.Made.{append_nothing}
 use Rattle.gl_range.specs.Told.{told_in}
-use Rattle.gl_range.proofs.Telling.{told-append, can_tell}
+use Rattle.gl_range.proofs.Tellings.{told-append, can_tell}
 use Rattle.gl_range.proofs.follow.follow.Goals as goal
 
 pub loop-cell-init : goal.loop-cell-init
@@ -40,8 +40,8 @@ pub step-requires-clause-can : goal.step-requires-clause-can
 step-requires-clause-can g c =
     let ys = g.S.Shelf.items c.args.input.now in
     let slices = c.args.slices in
-    let i = c.loop-cell.walk.old_place in
-    let j = c.loop-cell.walk.new_place in
+    let i = c.loop-cell.walk.old_position in
+    let j = c.loop-cell.walk.new_position in
     let out = c.loop-cell.walk.out.pieces in
     let qs = pieces_in (cell_ref c.in-Some.cell) in
     let rest = spread (cells_rest c.next.new.self) in
@@ -55,8 +55,8 @@ pub loop-cell-preserved : goal.loop-cell-preserved
 loop-cell-preserved g c =
     let ys = g.S.Shelf.items c.args.input.now in
     let slices = c.args.slices in
-    let i = c.loop-cell.walk.old_place in
-    let j = c.loop-cell.walk.new_place in
+    let i = c.loop-cell.walk.old_position in
+    let j = c.loop-cell.walk.new_position in
     let out = c.loop-cell.walk.out.pieces in
     let more = c.step.new.walk.out.pieces in
     let qs = pieces_in (cell_ref c.in-Some.cell) in
@@ -67,7 +67,7 @@ loop-cell-preserved g c =
     let all = normal (told_in ys slices 0 0 c.args.d.now.pieces) in
     let goes = c.in_ok-step.ensures in
     record {
-      told = ap (λ k. normal (more ++ told_in ys slices k c.step.new.walk.new_place rest)) goes.old_is
+      told = ap (λ k. normal (more ++ told_in ys slices k c.step.new.walk.new_position rest)) goes.old_is
           ∙ (ap (λ k. normal (more ++ told_in ys slices (i + old_len qs) k rest)) goes.new_is
           ∙ told_more all out more (told_in ys slices i j qs) (told_in ys slices (i + old_len qs) (j + new_len qs) rest) whole goes.told_is);
       olds = omega (arith, c.loop-cell.invariant.olds, ap old_len split, old_len-append qs rest, goes.old_is);
@@ -77,8 +77,8 @@ loop-cell-preserved g c =
 pub returns : goal.returns
 returns g c =
     let ys = g.S.Shelf.items c.args.input.now in
-    let i = c.loop-cell.walk.old_place in
-    let j = c.loop-cell.walk.new_place in
+    let i = c.loop-cell.walk.old_position in
+    let j = c.loop-cell.walk.new_position in
     let out = c.loop-cell.walk.out.pieces in
     sym (normal_is out c.old_len-normal.ensures.normal)
     ∙ (ap normal (sym (append_nothing out))

@@ -1,5 +1,5 @@
 use Rattle.std.proofs.Common.{◌∙◌, length, ap, sym}
-use Rattle.gl_testing.proofs.Leading.{to_new}
+use Rattle.gl_testing.proofs.Leads.{to_new}
 use Rattle.gl_range.proofs.tests.follows.Goals as goal
 
 pub advance-requires-clause-leads : goal.advance-requires-clause-leads

@@ -16,9 +16,9 @@ set_own-requires g t c =
     let m = g.S.Summary.sums in
     let b = below m c.args.nodes.now c.args.top u c.read-here.result (filled_from_place u _ in_range) s.top_is s.stands c.read-here.ensures in
     let h = head_read m _ _ (left_of u) _ s.addressed b.left_is b.left_stands c.read.ensures in
-    let within : c.args.place < tree_size (left_of u) = omega (arith, h.size, c.if-place-before.true) in
+    let within : c.args.position < tree_size (left_of u) = omega (arith, h.size, c.if-position-before.true) in
     let lower = left_lower m c.args.nodes.now c.args.top u c.read-here.result s.addressed s.top_is s.stands b in
-    let needs : SomeWithPlace m c.args.nodes.now c.read-here.result.left c.args.place = record { tree = left_of u; stands = left_part m _ _ u _ s b; in_range = within } in
+    let needs : SomeWithPlace m c.args.nodes.now c.read-here.result.left c.args.position = record { tree = left_of u; stands = left_part m _ _ u _ s b; in_range = within } in
     search (rules, lower, needs)
 
 pub make-requires : goal.make-requires
@@ -29,39 +29,39 @@ make-requires g t c =
     let m = g.S.Summary.sums in
     let b = below m c.args.nodes.now c.args.top u c.read-here.result (filled_from_place u _ in_range) s.top_is s.stands c.read-here.ensures in
     let h = head_read m _ _ (left_of u) _ s.addressed b.left_is b.left_stands c.read.ensures in
-    let within : c.args.place < tree_size (left_of u) = omega (arith, h.size, c.if-place-before.true) in
+    let within : c.args.position < tree_size (left_of u) = omega (arith, h.size, c.if-position-before.true) in
     let so = c.set_own.ensures (left_of u) (left_part m _ _ u _ s b) within in
     let sides = own_left_sides m _ _ _ _ _ _ u _ s b so in
     record { l = so.tree; r = right_of u; sides = sides.0; near = sides.1 }
 
-pub overflow_sub-place-then-place-before-2 : goal.overflow_sub-place-then-place-before-2
-overflow_sub-place-then-place-before-2 g t c = omega (arith, c.if-place-before-2.true)
+pub overflow_sub-position-then-position-before-2 : goal.overflow_sub-position-then-position-before-2
+overflow_sub-position-then-position-before-2 g t c = omega (arith, c.if-position-before-2.true)
 
-pub set_own-requires-then-place-before-2 : goal.set_own-requires-then-place-before-2
-set_own-requires-then-place-before-2 g t c =
+pub set_own-requires-then-position-before-2 : goal.set_own-requires-then-position-before-2
+set_own-requires-then-position-before-2 g t c =
     let u = c.requires.tree in
     let s = c.requires.stands in
     let in_range = c.requires.in_range in
     let m = g.S.Summary.sums in
     let b = below m c.args.nodes.now c.args.top u c.read-here.result (filled_from_place u _ in_range) s.top_is s.stands c.read-here.ensures in
     let h = head_read m _ _ (left_of u) _ s.addressed b.left_is b.left_stands c.read.ensures in
-    let k = c.args.place - c.read.result.size - 1 in
-    let past : c.args.place ≡ tree_size (left_of u) + suc k = omega (arith, h.size, c.if-place-before-2.true) in
+    let k = c.args.position - c.read.result.size - 1 in
+    let past : c.args.position ≡ tree_size (left_of u) + suc k = omega (arith, h.size, c.if-position-before-2.true) in
     let lower = right_lower m c.args.nodes.now c.args.top u c.read-here.result s.addressed s.top_is s.stands b in
     let needs : SomeWithPlace m c.args.nodes.now c.read-here.result.right k = record { tree = right_of u; stands = right_part m _ _ u _ s b; in_range = omega (arith, past, in_range, b.size) } in
     search (rules, lower, needs)
 
-pub make-requires-then-place-before-2 : goal.make-requires-then-place-before-2
-make-requires-then-place-before-2 g t c =
+pub make-requires-then-position-before-2 : goal.make-requires-then-position-before-2
+make-requires-then-position-before-2 g t c =
     let u = c.requires.tree in
     let s = c.requires.stands in
     let in_range = c.requires.in_range in
     let m = g.S.Summary.sums in
     let b = below m c.args.nodes.now c.args.top u c.read-here.result (filled_from_place u _ in_range) s.top_is s.stands c.read-here.ensures in
     let h = head_read m _ _ (left_of u) _ s.addressed b.left_is b.left_stands c.read.ensures in
-    let k = c.args.place - c.read.result.size - 1 in
-    let past : c.args.place ≡ tree_size (left_of u) + suc k = omega (arith, h.size, c.if-place-before-2.true) in
-    let so = c.set_own-then-place-before-2.ensures (right_of u) (right_part m _ _ u _ s b) (omega (arith, past, in_range, b.size)) in
+    let k = c.args.position - c.read.result.size - 1 in
+    let past : c.args.position ≡ tree_size (left_of u) + suc k = omega (arith, h.size, c.if-position-before-2.true) in
+    let so = c.set_own-then-position-before-2.ensures (right_of u) (right_part m _ _ u _ s b) (omega (arith, past, in_range, b.size)) in
     let sides = own_right_sides m _ _ _ _ k _ u _ s b so in
     record { l = left_of u; r = so.tree; sides = sides.0; near = sides.1 }
 
@@ -75,8 +75,8 @@ put-requires g t c =
     let h = head_read m _ _ (left_of u) _ s.addressed b.left_is b.left_stands c.read.ensures in
     omega (arith, b.at.within)
 
-pub make-requires-else-place-before-2 : goal.make-requires-else-place-before-2
-make-requires-else-place-before-2 g t c =
+pub make-requires-else-position-before-2 : goal.make-requires-else-position-before-2
+make-requires-else-position-before-2 g t c =
     let u = c.requires.tree in
     let s = c.requires.stands in
     let in_range = c.requires.in_range in
@@ -85,33 +85,33 @@ make-requires-else-place-before-2 g t c =
     let h = head_read m _ _ (left_of u) _ s.addressed b.left_is b.left_stands c.read.ensures in
     record { l = left_of u; r = right_of u; sides = own_here_sides m _ _ _ _ u _ s b c.put.ensures; near = b.at.balanced }
 
-pub returns-then-place-before : goal.returns-then-place-before
-returns-then-place-before g t c =
+pub returns-then-position-before : goal.returns-then-position-before
+returns-then-position-before g t c =
     λ u s in_range.
     let m = g.S.Summary.sums in
     let b = below m c.args.nodes.now c.args.top u c.read-here.result (filled_from_place u _ in_range) s.top_is s.stands c.read-here.ensures in
     let h = head_read m _ _ (left_of u) _ s.addressed b.left_is b.left_stands c.read.ensures in
-    let within : c.args.place < tree_size (left_of u) = omega (arith, h.size, c.if-place-before.true) in
+    let within : c.args.position < tree_size (left_of u) = omega (arith, h.size, c.if-position-before.true) in
     let so = c.set_own.ensures (left_of u) (left_part m _ _ u _ s b) within in
     let sides = own_left_sides m _ _ _ _ _ _ u _ s b so in
     own_left_done m _ _ _ _ _ _ _ u _ s b within so (c.make.ensures so.tree (right_of u) sides.0 sides.1)
 
-pub returns-then-place-before-2 : goal.returns-then-place-before-2
-returns-then-place-before-2 g t c =
+pub returns-then-position-before-2 : goal.returns-then-position-before-2
+returns-then-position-before-2 g t c =
     λ u s in_range.
     let m = g.S.Summary.sums in
     let b = below m c.args.nodes.now c.args.top u c.read-here.result (filled_from_place u _ in_range) s.top_is s.stands c.read-here.ensures in
     let h = head_read m _ _ (left_of u) _ s.addressed b.left_is b.left_stands c.read.ensures in
-    let k = c.args.place - c.read.result.size - 1 in
-    let past : c.args.place ≡ tree_size (left_of u) + suc k = omega (arith, h.size, c.if-place-before-2.true) in
-    let so = c.set_own-then-place-before-2.ensures (right_of u) (right_part m _ _ u _ s b) (omega (arith, past, in_range, b.size)) in
+    let k = c.args.position - c.read.result.size - 1 in
+    let past : c.args.position ≡ tree_size (left_of u) + suc k = omega (arith, h.size, c.if-position-before-2.true) in
+    let so = c.set_own-then-position-before-2.ensures (right_of u) (right_part m _ _ u _ s b) (omega (arith, past, in_range, b.size)) in
     let sides = own_right_sides m _ _ _ _ k _ u _ s b so in
-    own_right_done m _ _ _ _ _ _ k _ u _ s b past so (c.make-then-place-before-2.ensures (left_of u) so.tree sides.0 sides.1)
+    own_right_done m _ _ _ _ _ _ k _ u _ s b past so (c.make-then-position-before-2.ensures (left_of u) so.tree sides.0 sides.1)
 
-pub returns-else-place-before-2 : goal.returns-else-place-before-2
-returns-else-place-before-2 g t c =
+pub returns-else-position-before-2 : goal.returns-else-position-before-2
+returns-else-position-before-2 g t c =
     λ u s in_range.
     let m = g.S.Summary.sums in
     let b = below m c.args.nodes.now c.args.top u c.read-here.result (filled_from_place u _ in_range) s.top_is s.stands c.read-here.ensures in
     let h = head_read m _ _ (left_of u) _ s.addressed b.left_is b.left_stands c.read.ensures in
-    own_here_done m _ _ _ _ _ _ u _ s b (omega (arith, h.size, c.if-place-before.false, c.if-place-before-2.false)) c.put.ensures (c.make-else-place-before-2.ensures (left_of u) (right_of u) (own_here_sides m _ _ _ _ u _ s b c.put.ensures) b.at.balanced)
+    own_here_done m _ _ _ _ _ _ u _ s b (omega (arith, h.size, c.if-position-before.false, c.if-position-before-2.false)) c.put.ensures (c.make-else-position-before-2.ensures (left_of u) (right_of u) (own_here_sides m _ _ _ _ u _ s b c.put.ensures) b.at.balanced)

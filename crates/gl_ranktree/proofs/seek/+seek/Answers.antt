@@ -3,7 +3,7 @@ use Rattle.gl_ranktree.specs.Tree.{left_of, right_of, inorder, list_sum}
 use Rattle.gl_ranktree.specs.Sought.{SomeFitting}
 use Rattle.gl_ranktree.proofs.Edits.{below, left_lower, right_lower, filled_from_slot}
 use Rattle.gl_ranktree.proofs.Removals.{left_part, right_part}
-use Rattle.gl_ranktree.proofs.Seeking.{sought_left, sought_here, sought_right, read_below, rest_fits}
+use Rattle.gl_ranktree.proofs.Seeks.{sought_left, sought_here, sought_right, read_below, rest_fits}
 use Rattle.gl_ranktree.proofs.seek.+seek.Goals as goal
 
 pub seek-requires : goal.seek-requires
@@ -60,7 +60,7 @@ overflow_add-result-2 g t c =
     let b = below m c.args.nodes.now c.args.top u c.read-here.result (filled_from_slot m _ u s.top_is c.if-top-eq-ABSENT.false) s.top_is s.stands c.read-here.ensures in
     let r = read_below m g.met.S.Summary.laws _ _ u _ c.read-left.result s b c.requires.fits c.read-here.ensures c.read-left.ensures in
     let right = c.seek-rest.ensures (right_of u) (right_part m _ _ u _ s b) r.right_fits in
-    omega (arith, r.left_size, r.size, s.small, right.place_is, ap length right.is, length-append right.front right.back)
+    omega (arith, r.left_size, r.size, s.small, right.position_is, ap length right.is, length-append right.prefix right.back)
 
 pub returns : goal.returns
 returns g t c =
@@ -76,5 +76,5 @@ returns g t c =
     let sum_is : c.plus-through.result ≡ m.plus (list_sum m (inorder (left_of u))) c.read-here.result.own = through_is ∙ ap (λ v. m.plus v c.read-here.result.own) r.left_sum in
     let before_fits = rest_fits m laws (m.plus c.read-left.result.sum c.read-here.result.own) (inorder (right_of u)) measured _ _ _ _ r.whole_fits right in
     let before_is = c.plus.ensures (rw through_is before_fits) ∙ ap (λ v. m.plus v c.seek-rest.result.before) sum_is in
-    let there = sought_right m laws measured (g.met.M.Measure.empty by) (g.met.M.Measure.additive by) (inorder (left_of u)) (inorder (right_of u)) (c.args.top, c.read-here.result.own) c.args.k (c.args.k - c.of-reached.result) (c.read-left.result.size + 1 + c.seek-rest.result.place) c.seek-rest.result.place c.plus.result c.seek-rest.result.before c.seek-rest.result.own (omega (arith, c.if-k-reached.false, c.of-reached.ensures, ap measured sum_is)) (omega (arith, r.left_size)) before_is right in
+    let there = sought_right m laws measured (g.met.M.Measure.empty by) (g.met.M.Measure.additive by) (inorder (left_of u)) (inorder (right_of u)) (c.args.top, c.read-here.result.own) c.args.k (c.args.k - c.of-reached.result) (c.read-left.result.size + 1 + c.seek-rest.result.position) c.seek-rest.result.position c.plus.result c.seek-rest.result.before c.seek-rest.result.own (omega (arith, c.if-k-reached.false, c.of-reached.ensures, ap measured sum_is)) (omega (arith, r.left_size)) before_is right in
     rw r.order there

@@ -3,10 +3,10 @@ use Rattle.std.specs.Prelude.{List, slice_get, unwrap_or}
 use Rattle.std.proofs.lemmas.List.{get_or_default}
 use Rattle.gl_outside.specs.declared.gate.Actor.{Actor}
 use Rattle.gl_outside.specs.declared.gate.Actor.TheVariants.{Writer}
-use Rattle.spec_plans.specs.Plan.{Plan}
-use Rattle.spec_runs.specs.Run.{run}
-use Rattle.spec_runs.specs.Telling.{Telling}
-use Rattle.spec_runs.proofs.Runs.{length-replies}
+use Rattle.spec_reports.specs.Plan.{Plan}
+use Rattle.spec_reports.specs.Run.{run}
+use Rattle.spec_reports.specs.Telling.{Telling}
+use Rattle.spec_reports.proofs.Runs.{length-replies}
 use Rattle.spec_reports.specs.Report.{told_lines, told_first, told_later, entry_lines}
 use Rattle.gl_world.specs.declared.telling.Telling.{Telling as Told}
 use Rattle.gl_world.specs.Told.{tellings_of}
@@ -35,7 +35,7 @@ loop-place-preserved g c =
     ∙ ap (λ ls. c.write_entry.new.out ++ told_lines ls (told_first k (tellings_of told))) heard
     ∙ ap (λ o. o ++ lines) entered in
     let left : List Telling → List ℕ = λ ts. entry_lines plan (k + 1) (drop (k + 1) order) (drop (k + 1) replies) ts in
-    ap (λ ts. c.write_told.new.out ++ left (tellings_of ts)) c.behind-told.ensures
+    ap (λ ts. c.write_told.new.out ++ left (tellings_of ts)) c.rest-told.ensures
     ∙ ap (λ ts. c.write_told.new.out ++ left ts) c.in_ok-count.ensures.left
     ∙ ap (λ o. o ++ left (told_later k (tellings_of told))) written
     ∙ entry_more plan (tellings_of told) c.loop-place.out _ order replies k actor c.loop-place-test.true same is c.loop-place.invariant

@@ -1,5 +1,5 @@
 use Rattle.std.proofs.Common.{◌≡◌, ◌++◌, drop}
-use Rattle.spec_runs.specs.Run.{run}
+use Rattle.spec_reports.specs.Run.{run}
 use Rattle.gl_world.specs.Told.{tellings_of}
 use Rattle.spec_reports.specs.Report.{entry_lines}
 use Rattle.gl_report.proofs.entries.write_entries.Given as goal

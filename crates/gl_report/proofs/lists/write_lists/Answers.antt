@@ -1,11 +1,11 @@
 use Rattle.std.proofs.Common.{◌≡◌, ◌∙◌, length, ap, sym}
-use Rattle.spec_plans.specs.Plan.{Plan}
-use Rattle.spec_states.specs.State.{State}
-use Rattle.spec_states.specs.Shown.{Table, table_of}
-use Rattle.spec_states.proofs.Views.{length-table_of}
-use Rattle.spec_runs.specs.Run.{run}
-use Rattle.spec_runs.proofs.Keeping.{length-state}
-use Rattle.spec_runs.proofs.PlainRuns.{run_plain}
+use Rattle.spec_reports.specs.Plan.{Plan}
+use Rattle.spec_reports.specs.State.{State}
+use Rattle.spec_reports.specs.Shown.{Table, table_of}
+use Rattle.spec_reports.proofs.Views.{length-table_of}
+use Rattle.spec_reports.specs.Run.{run}
+use Rattle.spec_reports.proofs.KeptKinds.{length-state}
+use Rattle.spec_reports.proofs.PlainRuns.{run_plain}
 use Rattle.gl_report.proofs.Lines.{list_more}
 use Rattle.gl_report.proofs.lists.write_lists.Goals as goal
 

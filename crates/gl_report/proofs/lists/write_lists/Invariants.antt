@@ -1,6 +1,6 @@
 use Rattle.std.proofs.Common.{◌≡◌, ◌++◌, drop}
-use Rattle.spec_runs.specs.Run.{run}
-use Rattle.spec_states.specs.Shown.{table_of}
+use Rattle.spec_reports.specs.Run.{run}
+use Rattle.spec_reports.specs.Shown.{table_of}
 use Rattle.spec_reports.specs.Report.{list_lines}
 use Rattle.gl_report.proofs.lists.write_lists.Given as goal
 

@@ -2,7 +2,7 @@ use Rattle.std.proofs.Common.{◌≡◌, ◌∙◌, ◌<◌, ◌≤◌, ◌++◌
 use Rattle.std.specs.Prelude.{Some, slice_get}
 use Rattle.std.specs.Option.{option_copied}
 use Rattle.std.proofs.lemmas.Result.{IfOk-equal}
-use Rattle.spec_runs.specs.Run.{shown_after}
+use Rattle.spec_reports.specs.Run.{shown_after}
 use Rattle.gl_syntax.specs.Elements.{elements_from}
 use Rattle.gl_syntax.proofs.Elements.{closed, element_more, some_within}
 use Rattle.gl_report.proofs.lists.write_shown.Goals as goal

@@ -1,5 +1,5 @@
 use Rattle.std.proofs.Common.{◌≡◌, ◌++◌, drop}
-use Rattle.spec_runs.specs.Run.{shown_after}
+use Rattle.spec_reports.specs.Run.{shown_after}
 use Rattle.gl_syntax.specs.Elements.{elements_from}
 use Rattle.gl_report.proofs.lists.write_shown.Given as goal
 

@@ -3,6 +3,6 @@ use Rattle.gl_source.proofs.source.filled.Given as goal
 
 abbrev pub invariant-values : goal.invariant-values
 invariant-values l = record {
-  values : l.list.values ≡ take l.place l.values;
+  values : l.list.values ≡ take l.position l.values;
   room : length l.values ≤ l.list.room;
 }

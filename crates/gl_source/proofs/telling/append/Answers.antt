@@ -2,7 +2,7 @@ use Rattle.std.proofs.Common.{◌≡◌, ◌∙◌, ◌+◌, ◌++◌, ◌∷◌
 use Rattle.spec_value.specs.Tree.{Tree}
 use Rattle.spec_lists.specs.Piece.{identity, inserted, normal}
 use Rattle.gl_kernel.specs.Plans.{CanTell}
-use Rattle.gl_source.proofs.Building.{appended_more, can_append}
+use Rattle.gl_source.proofs.Built.{appended_more, can_append}
 use Rattle.gl_source.proofs.telling.append.Goals as goal
 
 pub tell-requires : goal.tell-requires

@@ -1,5 +1,5 @@
 use Rattle.std.proofs.Common.{arith}
-use Rattle.gl_source.proofs.Building.{one_inserted, unchanged_len}
+use Rattle.gl_source.proofs.Built.{one_inserted, unchanged_len}
 use Rattle.gl_source.proofs.telling.put_in.Goals as goal
 
 pub record_insert-requires-clause-within : goal.record_insert-requires-clause-within

@@ -1,7 +1,7 @@
 use Rattle.std.proofs.Common.{◌∙◌, length, ap, arith}
 use Rattle.spec_lists.specs.Piece.{identity}
 use Rattle.spec_lists.specs.Delta.{one_set}
-use Rattle.gl_source.proofs.Building.{one_updated, unchanged_len, element_is}
+use Rattle.gl_source.proofs.Built.{one_updated, unchanged_len, element_is}
 use Rattle.gl_source.proofs.telling.put_instead.Goals as goal
 
 pub record_set-requires : goal.record_set-requires

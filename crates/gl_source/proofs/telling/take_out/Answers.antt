@@ -1,7 +1,7 @@
 use Rattle.std.proofs.Common.{◌∙◌, length, ap, arith}
 use Rattle.spec_lists.specs.Piece.{identity}
 use Rattle.spec_lists.specs.Delta.{one_remove}
-use Rattle.gl_source.proofs.Building.{one_removed, unchanged_len, element_is}
+use Rattle.gl_source.proofs.Built.{one_removed, unchanged_len, element_is}
 use Rattle.gl_source.proofs.telling.take_out.Goals as goal
 
 pub record_remove-requires : goal.record_remove-requires

@@ -1,5 +1,5 @@
 use Rattle.std.proofs.Common.{arith}
-use Rattle.gl_source.proofs.Leading.{new_len_is}
+use Rattle.gl_source.proofs.Leads.{new_len_is}
 use Rattle.gl_source.proofs.tests.answers.Goals as goal
 
 pub makes-requires-clause-within : goal.makes-requires-clause-within

@@ -11,6 +11,6 @@ abbrev pub decreases-add_values : goal.decreases-add_values
 decreases-add_values l = 2 * trees_size (trees l.values.now)
 
 -- what is written and what is left are the whole, and what is written is proper
-abbrev pub invariant-add_values-loop-place : goal.invariant-add_values-loop-place
-invariant-add_values-loop-place l =
-    (l.out ++ elements_from l.place (drop l.place l.values) ≡ l.initial.out ++ elements_from 0 l.values) × AreProper (trees (take l.place l.values))
+abbrev pub invariant-add_values-loop-offset : goal.invariant-add_values-loop-offset
+invariant-add_values-loop-offset l =
+    (l.out ++ elements_from l.offset (drop l.offset l.values) ≡ l.initial.out ++ elements_from 0 l.values) × AreProper (trees (take l.offset l.values))

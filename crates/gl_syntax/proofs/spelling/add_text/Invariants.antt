@@ -1,6 +1,6 @@
 use Rattle.std.proofs.Common.{◌≡◌, ◌++◌, take}
 use Rattle.std.specs.List.{flat_map}
-use Rattle.spec_texts.specs.Value.{spelled_byte}
+use Rattle.spec_syntax.specs.ValueText.{spelled_byte}
 use Rattle.gl_syntax.proofs.spelling.add_text.Given as goal
 
 abbrev pub invariant-loop-byte : goal.invariant-loop-byte

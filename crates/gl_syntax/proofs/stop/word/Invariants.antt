@@ -1,5 +1,5 @@
 use Rattle.std.proofs.Common.{◌≡◌, drop}
-use Rattle.spec_grammar.specs.Reader.{read_word}
+use Rattle.spec_syntax.specs.Reader.{read_word}
 use Rattle.gl_syntax.proofs.stop.word.Given as goal
 
 -- what is left of the word is read from the rest

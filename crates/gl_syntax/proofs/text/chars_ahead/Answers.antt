@@ -1,5 +1,5 @@
 use Rattle.std.proofs.Common.{◌-◌, ◌++◌, ◌∙◌, sym, arith}
-use Rattle.spec_grammar.proofs.Folds.{folded_ends, folded_made}
+use Rattle.spec_syntax.proofs.Folds.{folded_ends, folded_made}
 use Rattle.spec_syntax.specs.ValueReader.{begins_char, read_char}
 use Rattle.gl_syntax.proofs.text.chars_ahead.Goals as goal
 

@@ -1,5 +1,5 @@
 use Rattle.std.proofs.Common.{◌≡◌, ℕ, ◌≤◌, ◌++◌, length}
-use Rattle.spec_grammar.specs.Reader.{folded}
+use Rattle.spec_syntax.specs.Reader.{folded}
 use Rattle.spec_syntax.specs.ValueReader.{begins_char, read_char, read_chars}
 use Rattle.gl_syntax.proofs.text.chars_ahead.Given as goal
 

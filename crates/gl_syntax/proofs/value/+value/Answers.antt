@@ -1,6 +1,6 @@
 use Rattle.std.proofs.Common.{◌≡◌, [], ◌∷◌, ◌-◌, ◌++◌, ◌∙◌, sym, ap, subst, arith, codes, MatchResult}
-use Rattle.spec_grammar.specs.Reader.{found, behind, folded}
-use Rattle.spec_grammar.proofs.Folds.{folded_on}
+use Rattle.spec_syntax.specs.Reader.{found, after_word, folded}
+use Rattle.spec_syntax.proofs.Folds.{folded_on}
 use Rattle.spec_syntax.specs.ValueReader.{is, read_elements, read_nested, read_others, snoc}
 use Rattle.spec_syntax.proofs.Verdicts.{element_rest}
 use Rattle.spec_syntax.proofs.Enclosed.{elements_found}
@@ -20,8 +20,8 @@ others_ahead-elements-preserved t c =
       most = before.most - 1;
       enough = omega (arith, before.enough, shorter);
       whole =
-          ap (λ values. folded snoc values (before.most - 1) (is 44) (behind (codes ",") (read_nested c.args.depth)) others) c.in_ok-values.ensures
-          ∙ sym (folded_on snoc c.elements.values before.most (is 44) (behind (codes ",") (read_nested c.args.depth)) rest c.in_ok-value.value others
+          ap (λ values. folded snoc values (before.most - 1) (is 44) (after_word (codes ",") (read_nested c.args.depth)) others) c.in_ok-values.ensures
+          ∙ sym (folded_on snoc c.elements.values before.most (is 44) (after_word (codes ",") (read_nested c.args.depth)) rest c.in_ok-value.value others
           (omega (arith, before.enough, shorter)) (sym c.begins_with.ensures ∙ c.elements-test.true) c.in_ok-value.ensures)
           ∙ before.whole;
     }

@@ -1,9 +1,9 @@
 use Rattle.std.proofs.Common.{◌≡◌, ℕ, ◌<◌, true, false, eqb, length, sym, subst, arith}
 use Rattle.std.proofs.lemmas.Bool.Decides.{nat_tests}
-use Rattle.spec_grammar.specs.Reader.{stopped}
+use Rattle.spec_syntax.specs.Reader.{stopped}
 use Rattle.spec_syntax.specs.Value.{any_value}
 use Rattle.spec_syntax.specs.ValueReader.{read_nested}
-use Rattle.spec_syntax.proofs.Verdicts.{spelled_all, spelled_front, spelled_none, left_le, rest_of}
+use Rattle.spec_syntax.proofs.Verdicts.{spelled_all, spelled_prefix, spelled_none, left_le, rest_of}
 use Rattle.gl_syntax.specs.Fault.{IsFault}
 use Rattle.gl_syntax.specs.Stop.{IsStop}
 use Rattle.gl_syntax.proofs.value.read_value.Goals as goal
@@ -20,7 +20,7 @@ returns-then-is_empty c = spelled_all c.args.bytes.now c.in-Ok.value c.in-Ok.res
 pub returns-else-is_empty : goal.returns-else-is_empty
 returns-else-is_empty c =
     subst (IsFault any_value c.args.bytes.now) (sym c.fault_at.ensures)
-    (spelled_front c.args.bytes.now c.in-Ok.value c.in-Ok.rest.now _ c.in-Ok.ensures (some_left _ c.if-is_empty.ensures)
+    (spelled_prefix c.args.bytes.now c.in-Ok.value c.in-Ok.rest.now _ c.in-Ok.ensures (some_left _ c.if-is_empty.ensures)
     (omega (arith, rest_of c.args.bytes.now c.in-Ok.value c.in-Ok.rest.now c.in-Ok.ensures)))
 
 pub returns-in-Err-Form : goal.returns-in-Err-Form

@@ -1,7 +1,7 @@
 use Rattle.std.proofs.Common.{◌∙◌, ◌∷◌, [], ◌++◌, ap, sym}
 use Rattle.spec_lists.specs.Piece.{kept, updated, deleted, inserted}
 use Rattle.std.proofs.lemmas.List.{append-nil}
-use Rattle.gl_testing.proofs.Leading.{row_more}
+use Rattle.gl_testing.proofs.Leads.{row_more}
 use Rattle.gl_testing.proofs.change.add_row.Goals as goal
 
 pub returns-in_ok-add-in-Keep-2-clause-delta : goal.returns-in_ok-add-in-Keep-2-clause-delta

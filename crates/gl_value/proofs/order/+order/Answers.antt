@@ -1,7 +1,7 @@
 use Rattle.std.proofs.Common.{◌≡◌, ◌+◌, ◌≤◌, ◌<◌, min, length, arith, sym, ◌∙◌}
 use Rattle.spec_value.specs.Tree.{tree_size, trees, trees_size}
 use Rattle.spec_value.specs.Order as order
-use Rattle.spec_value.proofs.OrderLaws.{cmp_trees-trees}
+use Rattle.spec_value.proofs.Order.{cmp_trees-trees}
 use Rattle.gl_value.proofs.Lists.{slice_cmp-ends, tree_size-at}
 use Rattle.gl_value.proofs.order.+order.Goals as goal
 

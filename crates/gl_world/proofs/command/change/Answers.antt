@@ -1,16 +1,16 @@
 use Rattle.std.proofs.Common.{◌∙◌, ◌++◌, ◌∷◌, [], sym, subst}
 use Rattle.std.specs.Prelude.{List}
-use Rattle.gl_lines.specs.declared.reply.Reply.TheVariants.{OutOfRange, TooLong}
+use Rattle.spec_states.specs.Reply.TheVariants.{OutOfRange, TooLong}
 use Rattle.spec_runs.proofs.Steps.{still_state}
-use Rattle.spec_runs.proofs.Suiting.{suits_list}
+use Rattle.spec_runs.proofs.Suits.{suits_list}
 use Rattle.gl_graph.specs.declared.graph.GraphUndo.{GraphUndo}
 use Rattle.gl_graph.specs.Graph.{Kept, state_of}
 use Rattle.gl_graph.specs.Waves.{IsRefused}
-use Rattle.gl_graph.proofs.Going.{contents_same_state}
+use Rattle.gl_graph.proofs.Progress.{contents_same_state}
 use Rattle.gl_world.specs.Back.{GoesOn}
 use Rattle.gl_world.proofs.Backs.{goes_like, goes_more, goes_back}
 use Rattle.gl_world.proofs.Commands.{deltas_still, deltas_joined, are_meeting}
-use Rattle.gl_world.proofs.Suiting.{graph_suits}
+use Rattle.gl_world.proofs.Suits.{graph_suits}
 use Rattle.gl_world.proofs.command.change.Goals as goal
 
 pub wave-requires-clause-suits : goal.wave-requires-clause-suits

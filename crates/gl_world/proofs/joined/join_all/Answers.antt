@@ -1,5 +1,5 @@
 use Rattle.std.proofs.Common.{arith}
-use Rattle.gl_world.proofs.Joining.{joined_none_yet, joined_next, meet_next, joined_all}
+use Rattle.gl_world.proofs.JoinedDeltas.{joined_none_yet, joined_next, meet_next, joined_all}
 use Rattle.gl_world.proofs.joined.join_all.Goals as goal
 
 pub loop-list-init : goal.loop-list-init

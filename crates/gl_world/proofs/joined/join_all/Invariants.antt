@@ -1,4 +1,4 @@
-use Rattle.gl_world.proofs.Joining.{JoinedTo}
+use Rattle.gl_world.proofs.JoinedDeltas.{JoinedTo}
 use Rattle.gl_world.proofs.joined.join_all.Given as goal
 
 abbrev pub invariant-loop-list : goal.invariant-loop-list

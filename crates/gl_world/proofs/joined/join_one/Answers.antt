@@ -1,6 +1,6 @@
 use Rattle.std.proofs.Common.{◌≡◌, ◌∙◌, ap}
-use Rattle.spec_lists.specs.Delta.{composed}
-use Rattle.gl_world.proofs.Joining.{put_joined}
+use Rattle.spec_states.specs.Delta.{composed}
+use Rattle.gl_world.proofs.JoinedDeltas.{put_joined}
 use Rattle.gl_world.proofs.joined.join_one.Goals as goal
 
 pub returns-in_ok-reserve_for-in-Some : goal.returns-in_ok-reserve_for-in-Some

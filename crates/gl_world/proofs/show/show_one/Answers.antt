@@ -1,6 +1,6 @@
 use Rattle.spec_states.specs.Shown.{shown}
 use Rattle.gl_graph.specs.Graph.{state_of}
-use Rattle.gl_world.proofs.Showing.{one_more}
+use Rattle.gl_world.proofs.Shown.{one_more}
 use Rattle.gl_world.proofs.show.show_one.Goals as goal
 
 pub returns : goal.returns

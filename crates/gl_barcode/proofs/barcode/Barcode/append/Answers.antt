@@ -2,7 +2,7 @@ use Rattle.std.proofs.Common.{◌++◌, replicate, sym, ap, ◌∙◌, arith, su
 use Rattle.gl_fourcolour.specs.Colours.{AllBelow}
 use Rattle.gl_fourcolour.specs.Colours as colours
 use Rattle.gl_barcode.specs.Held.{shown_of}
-use Rattle.gl_barcode.proofs.Holding.{held_is, colour_below, below-appended, shown-appended}
+use Rattle.gl_barcode.proofs.Held.{held_is, colour_below, below-appended, shown-appended}
 use Rattle.gl_barcode.proofs.barcode.Barcode.append.Goals as goal
 
 pub invariant_of-self-2 : goal.invariant_of-self-2

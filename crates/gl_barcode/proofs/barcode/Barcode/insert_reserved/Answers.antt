@@ -3,7 +3,7 @@ use Rattle.gl_fourcolour.specs.Colours.{inserted, AllBelow}
 use Rattle.gl_fourcolour.specs.Colours as colours
 use Rattle.gl_barcode.specs.Bars.{spare}
 use Rattle.gl_barcode.specs.Held.{shown_of, colour_of}
-use Rattle.gl_barcode.proofs.Holding.{held_is, has_room, colour_below, below-inserted, shown-inserted, spare_is}
+use Rattle.gl_barcode.proofs.Held.{held_is, has_room, colour_below, below-inserted, shown-inserted, spare_is}
 use Rattle.gl_barcode.proofs.barcode.Barcode.insert_reserved.Goals as goal
 
 pub insert_reserved-requires : goal.insert_reserved-requires

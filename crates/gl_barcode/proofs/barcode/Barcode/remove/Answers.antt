@@ -3,7 +3,7 @@ use Rattle.gl_fourcolour.specs.Colours.{AllBelow}
 use Rattle.gl_fourcolour.specs.Colours as colours
 use Rattle.gl_barcode.specs.Bars.{spare}
 use Rattle.gl_barcode.specs.Held.{shown_of}
-use Rattle.gl_barcode.proofs.Holding.{held_is, below-removed, shown-removed, spare_is}
+use Rattle.gl_barcode.proofs.Held.{held_is, below-removed, shown-removed, spare_is}
 use Rattle.gl_barcode.proofs.barcode.Barcode.remove.Goals as goal
 
 pub invariant_of-self : goal.invariant_of-self

@@ -1,5 +1,5 @@
 use Rattle.gl_fourcolour.specs.Colours as colours
-use Rattle.gl_barcode.proofs.Holding.{reserved}
+use Rattle.gl_barcode.proofs.Held.{reserved}
 use Rattle.gl_barcode.proofs.barcode.Barcode.reserve.Goals as goal
 
 pub returns-clause-ok : goal.returns-clause-ok

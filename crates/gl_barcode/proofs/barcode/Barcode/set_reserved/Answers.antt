@@ -3,7 +3,7 @@ use Rattle.gl_fourcolour.specs.Colours.{painted, AllBelow}
 use Rattle.gl_fourcolour.specs.Colours as colours
 use Rattle.gl_barcode.specs.Bars.{spare}
 use Rattle.gl_barcode.specs.Held.{shown_of, colour_of}
-use Rattle.gl_barcode.proofs.Holding.{held_is, has_room, colour_below, below-painted, shown-painted, spare_is}
+use Rattle.gl_barcode.proofs.Held.{held_is, has_room, colour_below, below-painted, shown-painted, spare_is}
 use Rattle.gl_barcode.proofs.barcode.Barcode.set_reserved.Goals as goal
 
 pub paint_reserved-requires : goal.paint_reserved-requires

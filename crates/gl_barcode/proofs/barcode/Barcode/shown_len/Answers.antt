@@ -2,7 +2,7 @@ use Rattle.std.proofs.Common.{take, ap, ◌∙◌}
 use Rattle.gl_fourcolour.specs.Colours as colours
 use Rattle.std.proofs.Math.Seq.{take-length}
 use Rattle.gl_fourcolour.specs.Colours.{count_among}
-use Rattle.gl_barcode.proofs.Holding.{held_is}
+use Rattle.gl_barcode.proofs.Held.{held_is}
 use Rattle.gl_barcode.proofs.barcode.Barcode.shown_len.Goals as goal
 
 pub returns : goal.returns

@@ -1,6 +1,6 @@
 use Rattle.std.proofs.Common.{length, sym, ap, ◌∙◌, arith}
 use Rattle.gl_counted.specs.Counted.{Counted, handles}
-use Rattle.gl_counted.proofs.Holding.{length-held, handles-held}
+use Rattle.gl_counted.proofs.Held.{length-held, handles-held}
 use Rattle.gl_counted.proofs.counted.Counted.descend.Goals as goal
 
 pub returns-clause-slots : goal.returns-clause-slots

@@ -1,6 +1,6 @@
 use Rattle.std.proofs.Common.{length, sym, ap, ◌∙◌, arith}
 use Rattle.gl_counted.specs.Counted.{Counted}
-use Rattle.gl_counted.proofs.Holding.{length-held}
+use Rattle.gl_counted.proofs.Held.{length-held}
 use Rattle.gl_counted.proofs.counted.Counted.height.Goals as goal
 
 pub returns : goal.returns

@@ -1,6 +1,6 @@
 use Rattle.std.proofs.Common.{length, insert, Contains, sym, ap, subst, ◌∙◌, arith}
 use Rattle.gl_counted.specs.Counted.{Counted, handles}
-use Rattle.gl_counted.proofs.Holding.{length-held, handles-held, fresh_vacant, inserted}
+use Rattle.gl_counted.proofs.Held.{length-held, handles-held, fresh_vacant, inserted}
 use Rattle.gl_counted.proofs.counted.Counted.insert_reserved.Goals as goal
 
 pub insert_reserved-slot-requires-clause-in_range : goal.insert_reserved-slot-requires-clause-in_range
@@ -58,7 +58,7 @@ invariant_of-self g c =
     let tree = c.self.inside.tree in
     let items = c.self.inside.items.items in
     let shown = ap (λ (x : Counted g.row.T.Denot). x.entries) (sym c.self.view_is) in
-    let ins = inserted tree c.insert_reserved-slot.new.self items c.store.new.items.items c.args.place c.insert_reserved-slot.result c.args.item h c.insert_reserved-slot.ensures.fresh c.insert_reserved-slot.ensures.entries c.insert_reserved-slot.ensures.slots c.store.ensures.stores in
+    let ins = inserted tree c.insert_reserved-slot.new.self items c.store.new.items.items c.args.position c.insert_reserved-slot.result c.args.item h c.insert_reserved-slot.ensures.fresh c.insert_reserved-slot.ensures.entries c.insert_reserved-slot.ensures.slots c.store.ensures.stores in
     ins.keeps
 
 pub returns-clause-entries : goal.returns-clause-entries
@@ -67,8 +67,8 @@ returns-clause-entries g c =
     let tree = c.self.inside.tree in
     let items = c.self.inside.items.items in
     let shown = ap (λ (x : Counted g.row.T.Denot). x.entries) (sym c.self.view_is) in
-    let ins = inserted tree c.insert_reserved-slot.new.self items c.store.new.items.items c.args.place c.insert_reserved-slot.result c.args.item h c.insert_reserved-slot.ensures.fresh c.insert_reserved-slot.ensures.entries c.insert_reserved-slot.ensures.slots c.store.ensures.stores in
-    rw c.new.ensures (ins.entries ∙ ap (λ xs. insert xs c.args.place (c.insert_reserved-slot.result, c.args.item)) (sym shown))
+    let ins = inserted tree c.insert_reserved-slot.new.self items c.store.new.items.items c.args.position c.insert_reserved-slot.result c.args.item h c.insert_reserved-slot.ensures.fresh c.insert_reserved-slot.ensures.entries c.insert_reserved-slot.ensures.slots c.store.ensures.stores in
+    rw c.new.ensures (ins.entries ∙ ap (λ xs. insert xs c.args.position (c.insert_reserved-slot.result, c.args.item)) (sym shown))
 
 pub returns-clause-fresh : goal.returns-clause-fresh
 returns-clause-fresh g c =

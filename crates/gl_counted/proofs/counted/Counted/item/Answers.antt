@@ -3,7 +3,7 @@ use Rattle.std.proofs.lemmas.List.{get_or_read}
 use Rattle.gl_counted.specs.Held.{item_at}
 use Rattle.gl_counted.specs.Counted.{Counted, handles}
 use Rattle.gl_ranktree.specs.Ranked.{slots_of}
-use Rattle.gl_counted.proofs.Holding.{handles-held, live_filled, slot_within, no_item, item_found}
+use Rattle.gl_counted.proofs.Held.{handles-held, live_filled, slot_within, no_item, item_found}
 use Rattle.gl_counted.proofs.counted.Counted.item.Goals as goal
 
 pub index-requires : goal.index-requires

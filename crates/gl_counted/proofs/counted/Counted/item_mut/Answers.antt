@@ -4,7 +4,7 @@ use Rattle.gl_ranktree.specs.Ranked.{slots_of}
 use Rattle.gl_counted.specs.Counted.{Counted, handles, with_item}
 use Rattle.gl_counted.specs.Held.{item_at, held}
 use Rattle.gl_counted.specs.Lends.{with_item_under}
-use Rattle.gl_counted.proofs.Holding.{handles-held, live_filled, slot_within, item_found, held-set, IsHeld-set}
+use Rattle.gl_counted.proofs.Held.{handles-held, live_filled, slot_within, item_found, held-set, IsHeld-set}
 use Rattle.gl_counted.proofs.counted.Counted.item_mut.Goals as goal
 
 pub index_mut-requires : goal.index_mut-requires

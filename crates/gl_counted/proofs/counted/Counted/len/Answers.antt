@@ -1,7 +1,7 @@
 use Rattle.std.proofs.Common.{length, sym, ap, ◌∙◌}
-use Rattle.gl_ranktree.proofs.Seen.{one_place}
+use Rattle.gl_ranktree.proofs.Seen.{one_position}
 use Rattle.gl_counted.specs.Counted.{Counted, handles}
-use Rattle.gl_counted.proofs.Holding.{length-held, handles-held}
+use Rattle.gl_counted.proofs.Held.{length-held, handles-held}
 use Rattle.gl_counted.proofs.counted.Counted.len.Goals as goal
 
 pub returns-clause-value : goal.returns-clause-value
@@ -21,4 +21,4 @@ returns-clause-distinct g c =
     let items = c.self.inside.items.items in
     let shown = ap (λ (x : Counted g.row.T.Denot). x.entries) (sym c.self.view_is) in
     let names = ap handles shown ∙ handles-held tree.entries items h.filled in
-    one_place tree.entries slot j k (h.distinct slot) (rw names at at_j) (rw names at at_k)
+    one_position tree.entries slot j k (h.distinct slot) (rw names at at_j) (rw names at at_k)

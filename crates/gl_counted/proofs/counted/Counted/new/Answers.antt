@@ -1,4 +1,4 @@
-use Rattle.gl_counted.proofs.Holding.{held_empty}
+use Rattle.gl_counted.proofs.Held.{held_empty}
 use Rattle.gl_counted.proofs.counted.Counted.new.Goals as goal
 
 pub invariant_of-result : goal.invariant_of-result

@@ -1,7 +1,7 @@
 use Rattle.std.proofs.Common.{Contains, sym, ap, subst, ◌∙◌}
 use Rattle.std.specs.List.{slice_get}
 use Rattle.gl_counted.specs.Counted.{Counted, handles}
-use Rattle.gl_counted.proofs.Holding.{handles-held}
+use Rattle.gl_counted.proofs.Held.{handles-held}
 use Rattle.gl_counted.proofs.counted.Counted.place.Goals as goal
 
 pub place-requires : goal.place-requires

@@ -2,7 +2,7 @@ use Rattle.std.proofs.Common.{sym, ap, ◌∙◌, refl, arith}
 use Rattle.std.proofs.lemmas.Result.{on_ok_weaker}
 use Rattle.gl_counted.specs.Held.{held}
 use Rattle.gl_counted.specs.Counted.{Counted}
-use Rattle.gl_counted.proofs.Holding.{length-held, held_same}
+use Rattle.gl_counted.proofs.Held.{length-held, held_same}
 use Rattle.gl_counted.proofs.counted.Counted.reserve.Goals as goal
 
 pub invariant_of-self : goal.invariant_of-self

@@ -1,6 +1,6 @@
 use Rattle.std.proofs.Common.{◌≡◌, ◌<◌, arith}
 use Rattle.gl_delta.specs.Cells.{cell_ref}
-use Rattle.gl_delta.proofs.CellLemmas.{cells_keep, cells_found, fewer}
+use Rattle.gl_delta.proofs.CellRuns.{cells_keep, cells_found, fewer}
 use Rattle.gl_delta.proofs.cells.CellsIterator.next.Goals as goal
 
 pub returns-then-self-found-clause-steps : goal.returns-then-self-found-clause-steps

@@ -1,7 +1,7 @@
 use Rattle.std.proofs.Common.{arith}
 use Rattle.gl_delta.specs.Pieces.{pieces}
-use Rattle.gl_delta.proofs.CellLemmas.{changed_few}
-use Rattle.gl_delta.proofs.CutLemmas.{length_few}
+use Rattle.gl_delta.proofs.CellRuns.{changed_few}
+use Rattle.gl_delta.proofs.Cuts.{length_few}
 use Rattle.gl_delta.proofs.delta.Delta.changes.Goals as goal
 
 pub returns-clause-few : goal.returns-clause-few

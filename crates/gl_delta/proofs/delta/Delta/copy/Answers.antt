@@ -1,5 +1,5 @@
 use Rattle.gl_delta.specs.Pieces.{pieces}
-use Rattle.gl_delta.proofs.KeptLemmas.{few_pieces}
+use Rattle.gl_delta.proofs.KeptPieces.{few_pieces}
 use Rattle.gl_delta.proofs.delta.Delta.copy.Goals as goal
 
 pub copy-requires : goal.copy-requires

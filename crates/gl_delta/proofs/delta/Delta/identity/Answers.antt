@@ -1,5 +1,5 @@
 use Rattle.gl_delta.specs.Pieces.{pieces}
-use Rattle.gl_delta.proofs.KeptLemmas.{kept_identity}
+use Rattle.gl_delta.proofs.KeptPieces.{kept_identity}
 use Rattle.gl_delta.proofs.delta.Delta.identity.Goals as goal
 
 pub invariant_of-result : goal.invariant_of-result

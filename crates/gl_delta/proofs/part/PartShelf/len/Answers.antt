@@ -1,7 +1,7 @@
 use Rattle.std.proofs.Common.{◌∙◌, ◌+◌, ◌-◌, ◌≤◌, drop, take, ap, sym, arith}
 use Rattle.spec_lists.specs.Sides.{sides}
 use Rattle.gl_delta.specs.Part.{plain_len}
-use Rattle.gl_delta.proofs.PlainLemmas.{part_all, part_length}
+use Rattle.gl_delta.proofs.PlainPairs.{part_all, part_length}
 use Rattle.gl_delta.proofs.part.PartShelf.len.Goals as goal
 
 pub returns-then-self-all : goal.returns-then-self-all

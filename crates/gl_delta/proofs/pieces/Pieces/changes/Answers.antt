@@ -1,7 +1,7 @@
 use Rattle.std.proofs.Common.{◌∙◌}
 use Rattle.spec_lists.specs.Changes.{changed_len}
-use Rattle.gl_delta.proofs.StoreLemmas.{held_is}
-use Rattle.gl_delta.proofs.RankLemmas.{counted, counts_changed}
+use Rattle.gl_delta.proofs.Stores.{held_is}
+use Rattle.gl_delta.proofs.Ranks.{counted, counts_changed}
 use Rattle.gl_delta.proofs.pieces.Pieces.changes.Goals as goal
 
 pub returns : goal.returns

@@ -4,7 +4,7 @@ use Rattle.spec_lists.specs.Cells.{pieces_in}
 use Rattle.gl_delta.specs.Cells.{cells_rest, cell_ref}
 use Rattle.gl_delta.specs.declared.cells.Cells.{Cells}
 use Rattle.gl_delta.specs.Pieces.{pieces}
-use Rattle.gl_delta.proofs.CellLemmas.{pieces_of_cells, pieces_again}
+use Rattle.gl_delta.proofs.CellRuns.{pieces_of_cells, pieces_again}
 use Rattle.gl_delta.proofs.pieces.Pieces.copy.Goals as goal
 
 pub copies-init : goal.copies-init

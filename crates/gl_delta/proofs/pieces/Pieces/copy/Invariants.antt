@@ -1,7 +1,7 @@
 use Rattle.std.proofs.Common.{◌≡◌, ◌++◌}
 use Rattle.gl_delta.specs.Cells.{cells_rest}
 use Rattle.gl_delta.specs.Pieces.{pieces}
-use Rattle.gl_delta.proofs.CellLemmas.{pieces_of_cells}
+use Rattle.gl_delta.proofs.CellRuns.{pieces_of_cells}
 use Rattle.gl_delta.proofs.pieces.Pieces.copy.Given as goal
 
 -- what was copied and what is left are the whole

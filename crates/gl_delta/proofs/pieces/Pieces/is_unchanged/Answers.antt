@@ -1,5 +1,5 @@
 use Rattle.std.proofs.Common.{◌∙◌, sym}
-use Rattle.gl_delta.proofs.CellLemmas.{unchanged_is, unchanged_from, zero_from_test, test_from_zero}
+use Rattle.gl_delta.proofs.CellRuns.{unchanged_is, unchanged_from, zero_from_test, test_from_zero}
 use Rattle.gl_delta.proofs.pieces.Pieces.is_unchanged.Goals as goal
 
 pub returns : goal.returns

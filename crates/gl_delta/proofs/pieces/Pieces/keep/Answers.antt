@@ -1,8 +1,8 @@
 use Rattle.std.proofs.Common.{◌++◌}
 use Rattle.std.proofs.lemmas.Result.{on_ok_weaker}
 use Rattle.spec_lists.specs.Piece.{identity}
-use Rattle.gl_delta.proofs.StoreLemmas.{held_is, stored_is}
-use Rattle.gl_delta.proofs.PutLemmas.{kept_stored, more_kept}
+use Rattle.gl_delta.proofs.Stores.{held_is, stored_is}
+use Rattle.gl_delta.proofs.Puts.{kept_stored, more_kept}
 use Rattle.gl_delta.proofs.pieces.Pieces.keep.Goals as goal
 
 pub invariant_of-self : goal.invariant_of-self

@@ -1,8 +1,8 @@
 use Rattle.std.proofs.Common.{◌∙◌, arith}
 use Rattle.spec_lists.specs.Changes.{changed_len}
-use Rattle.gl_delta.proofs.StoreLemmas.{held_is, colours_len}
-use Rattle.gl_delta.proofs.RankLemmas.{counted, counts_changed, ranked, none_left}
-use Rattle.gl_delta.proofs.CellLemmas.{changed_at, next_found, next_none}
+use Rattle.gl_delta.proofs.Stores.{held_is, colours_len}
+use Rattle.gl_delta.proofs.Ranks.{counted, counts_changed, ranked, none_left}
+use Rattle.gl_delta.proofs.CellRuns.{changed_at, next_found, next_none}
 use Rattle.gl_delta.proofs.pieces.Pieces.next_changed.Goals as goal
 
 pub returns-in-Some : goal.returns-in-Some
@@ -11,7 +11,7 @@ returns-in-Some c =
     let ps = c.args.self.now.pieces in
     let h = held_is i.colours i.olds i.news i.room c.args.self.now c.self.invariant c.self.view_is in
     let before = c.rank-before.ensures ∙ ranked 14 changed_len counts_changed i.colours.colours ps c.args.from h.stored.colours_are in
-    next_found ps c.args.from c.in-Some.found c.rank-before.result (changed_at c.rank-before.result i.colours.colours ps c.in-Some.found h.stored.colours_are c.in-Some.ensures.place) before
+    next_found ps c.args.from c.in-Some.found c.rank-before.result (changed_at c.rank-before.result i.colours.colours ps c.in-Some.found h.stored.colours_are c.in-Some.ensures.position) before
 
 pub returns-in-None : goal.returns-in-None
 returns-in-None c =

@@ -1,5 +1,5 @@
 use Rattle.std.proofs.Common.{length, ap, arith}
-use Rattle.gl_delta.proofs.StoreLemmas.{held_is, old_few, new_few}
+use Rattle.gl_delta.proofs.Stores.{held_is, old_few, new_few}
 use Rattle.gl_delta.proofs.pieces.Pieces.reserve.Goals as goal
 
 pub reserve-requires : goal.reserve-requires

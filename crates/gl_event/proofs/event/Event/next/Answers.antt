@@ -2,7 +2,7 @@ use Rattle.std.proofs.Common.{◌≡◌, ◌∙◌, ◌∷◌, [], None, drop, s
 use Rattle.spec_lists.specs.Changes.{changes}
 use Rattle.gl_event.specs.Heard.{Heard}
 use Rattle.gl_event.specs.Changes.{change_ref, changes_rest}
-use Rattle.gl_event.proofs.BlockLemmas.{left_more, left_none, next_at, get_first, get_none}
+use Rattle.gl_event.proofs.Blocks.{left_more, left_none, next_at, get_first, get_none}
 use Rattle.gl_event.proofs.event.Event.next.Goals as goal
 
 pub returns-in_err-change : goal.returns-in_err-change
@@ -21,7 +21,7 @@ invariant_of-self-2 c =
     let ps = c.self.inside.delta.pieces in
     let k = c.self.inside.given in
     let is : drop k (changes ps) ≡ change_ref c.in_ok-change.change ∷ changes_rest c.step.new.self = sym c.rest-walk.ensures.changes ∙ c.in_ok-change.ensures.gives in
-    next_at ps k _ _ _ _ is c.in_ok-change.ensures.behind c.self.invariant
+    next_at ps k _ _ _ _ is c.in_ok-change.ensures.index_after c.self.invariant
 
 pub returns : goal.returns
 returns c =

@@ -2,7 +2,7 @@ use Rattle.std.proofs.Common.{◌∙◌, ap, arith}
 use Rattle.spec_lists.specs.Changes.{changes}
 use Rattle.gl_event.specs.Heard.{Heard}
 use Rattle.gl_event.specs.Changes.{changes_in, new_count}
-use Rattle.gl_event.proofs.CellLemmas.{changes_cells, new_count-cells}
+use Rattle.gl_event.proofs.Cells.{changes_cells, new_count-cells}
 use Rattle.gl_event.proofs.event.Event.walk.Goals as goal
 
 pub returns-clause-changes : goal.returns-clause-changes

@@ -1,8 +1,8 @@
 use Rattle.std.proofs.Common.{◌≡◌, ◌∙◌, map, ap, sym, arith}
-use Rattle.spec_lang.specs.Matcher.{Matcher, accepts}
+use Rattle.spec_views.specs.Matcher.{Matcher, accepts}
 use Rattle.gl_filter.specs.Kept.{Kept}
-use Rattle.gl_filter.proofs.Changing.{change_is, questions_are}
-use Rattle.gl_filter.proofs.Marking.{switches_make}
+use Rattle.gl_filter.proofs.Changes.{change_is, questions_are}
+use Rattle.gl_filter.proofs.ShownMarks.{switches_make}
 use Rattle.gl_filter.proofs.filter.Filter.change.Goals as goal
 
 pub apply-requires-clause-within : goal.apply-requires-clause-within

@@ -1,8 +1,8 @@
 use Rattle.std.proofs.Common.{◌∙◌, ap}
-use Rattle.spec_lang.specs.Matcher.{accepts}
+use Rattle.spec_views.specs.Matcher.{accepts}
 use Rattle.gl_barcode.specs.Bars.{count_shown}
 use Rattle.gl_filter.specs.Kept.{Kept}
-use Rattle.gl_filter.proofs.Showing.{count-filter}
+use Rattle.gl_filter.proofs.Shown.{count-filter}
 use Rattle.gl_filter.proofs.filter.Filter.len.Goals as goal
 
 pub returns-clause-view : goal.returns-clause-view

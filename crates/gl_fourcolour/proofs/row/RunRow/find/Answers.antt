@@ -13,4 +13,4 @@ seek-sought-requires c =
 pub returns : goal.returns
 returns c =
     let runs_is = ap (λ (x : Row). x.runs) c.self.view_is in
-    subst (λ rs. IsFound c.args.mask.bits c.args.k rs c.seek-sought.result.place c.seek-sought.result.before c.run_from.result) runs_is (found c.args.mask.bits c.args.k _ c.self.inside.tree.entries _ _ _ c.self.invariant c.seek-sought.ensures c.run_from.ensures)
+    subst (λ rs. IsFound c.args.mask.bits c.args.k rs c.seek-sought.result.position c.seek-sought.result.before c.run_from.result) runs_is (found c.args.mask.bits c.args.k _ c.self.inside.tree.entries _ _ _ c.self.invariant c.seek-sought.ensures c.run_from.ensures)

@@ -9,5 +9,5 @@ use Rattle.gl_fourcolour.proofs.row.RunRow.get.Goals as goal
 pub returns : goal.returns
 returns c =
     let runs_is = ap (λ (x : Row). x.runs) c.self.view_is in
-    let place = c.args.place in
-    c.entry_run.ensures ∙ (ap (λ o. option_map (λ e. run_of e.1) o) c.get.ensures ∙ (sym (runs-get c.self.inside.tree.entries place) ∙ ap (λ xs. slice_get xs place) runs_is))
+    let position = c.args.position in
+    c.entry_run.ensures ∙ (ap (λ o. option_map (λ e. run_of e.1) o) c.get.ensures ∙ (sym (runs-get c.self.inside.tree.entries position) ∙ ap (λ xs. slice_get xs position) runs_is))

@@ -9,4 +9,4 @@ invariant_of-self c = rw (c.insert_reserved.ensures.entries, c.counts_of.ensures
 pub returns-clause-runs : goal.returns-clause-runs
 returns-clause-runs c =
     let runs_is = ap (λ (x : Row). x.runs) c.self.view_is in
-    rw (c.insert_reserved.ensures.entries, c.counts_of.ensures) (runs-insert _ _ _ c.args.run c.requires.colour c.requires.some ∙ ap (λ xs. insert xs c.args.place c.args.run) runs_is)
+    rw (c.insert_reserved.ensures.entries, c.counts_of.ensures) (runs-insert _ _ _ c.args.run c.requires.colour c.requires.some ∙ ap (λ xs. insert xs c.args.position c.args.run) runs_is)

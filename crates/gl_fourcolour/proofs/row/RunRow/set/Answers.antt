@@ -9,4 +9,4 @@ invariant_of-self c = rw (c.set_own.ensures.entries, c.counts_of.ensures) (AreRu
 pub returns-clause-runs : goal.returns-clause-runs
 returns-clause-runs c =
     let runs_is = ap (λ (x : Row). x.runs) c.self.view_is in
-    rw (c.set_own.ensures.entries, c.counts_of.ensures) (runs-set _ _ c.args.run c.requires.colour c.requires.some ∙ ap (λ xs. set xs c.args.place c.args.run) runs_is)
+    rw (c.set_own.ensures.entries, c.counts_of.ensures) (runs-set _ _ c.args.run c.requires.colour c.requires.some ∙ ap (λ xs. set xs c.args.position c.args.run) runs_is)

@@ -1,7 +1,7 @@
 use Rattle.std.proofs.Common.{◌≡◌, ◌∙◌, map, ap, sym}
 use Rattle.spec_lang.specs.Func.{Func, eval}
 use Rattle.gl_function.specs.Kept.{Kept}
-use Rattle.gl_function.proofs.Changing.{renewed_make}
+use Rattle.gl_function.proofs.Changes.{renewed_make}
 use Rattle.gl_function.proofs.function.Function.change.Goals as goal
 
 pub apply-requires-clause-within : goal.apply-requires-clause-within

@@ -2,14 +2,14 @@ use Rattle.std.proofs.Common.{◌≤◌, ◌∙◌, length, slice_get, ap, sym, 
 use Rattle.spec_states.specs.Shown.{shown}
 use Rattle.gl_graph.specs.Nodes.{AreSettled}
 use Rattle.gl_graph.specs.Graph.{Kept, state_of}
-use Rattle.gl_graph.proofs.Fronts.{past_shows}
+use Rattle.gl_graph.proofs.Prefixes.{past_shows}
 use Rattle.gl_graph.proofs.graph.Graph.get.Goals as goal
 
 pub returns-then-list-len : goal.returns-then-list-len
 returns-then-list-len c =
-    let past : length c.self.inside.places.items ≤ c.args.list = omega (arith, c.len.ensures, c.if-list-len.true) in
-    let none = past_shows c.self.inside.nodes.items c.self.inside.places.items c.args.list past in
-    ap (λ xs. slice_get xs c.args.place) (sym none) ∙ ap (λ (k : Kept). slice_get (shown (state_of k) c.args.list) c.args.place) c.self.view_is
+    let past : length c.self.inside.positions.items ≤ c.args.list = omega (arith, c.len.ensures, c.if-list-len.true) in
+    let none = past_shows c.self.inside.nodes.items c.self.inside.positions.items c.args.list past in
+    ap (λ xs. slice_get xs c.args.position) (sym none) ∙ ap (λ (k : Kept). slice_get (shown (state_of k) c.args.list) c.args.position) c.self.view_is
 
 pub element-requires-clause-settled : goal.element-requires-clause-settled
 element-requires-clause-settled c =

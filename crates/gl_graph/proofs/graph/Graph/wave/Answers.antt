@@ -1,6 +1,6 @@
 use Rattle.std.proofs.Common.{◌≡◌, ◌<◌, ◌∙◌, length, replicate, ap, sym, subst, arith}
 use Rattle.std.specs.Prelude.{Some, None, slice_index}
-use Rattle.spec_plans.specs.Plan.{origin as about}
+use Rattle.spec_states.specs.Plan.{origin as about}
 use Rattle.spec_states.specs.State.{own_at}
 use Rattle.spec_states.specs.Step.{unmoved}
 use Rattle.spec_states.specs.Wave.{command as made_by, wave}
@@ -10,24 +10,24 @@ use Rattle.gl_graph.specs.Waves.{AreTold, HaveRoomOf}
 use Rattle.gl_graph.specs.Spread.{IsSpread}
 use Rattle.gl_graph.proofs.Alike.{graph_same}
 use Rattle.gl_graph.proofs.Plain.{long_state}
-use Rattle.gl_graph.proofs.Ending.{start_low, spread_ends}
-use Rattle.gl_graph.proofs.Stepping.{begins}
-use Rattle.gl_graph.proofs.Going.{room_on}
+use Rattle.gl_graph.proofs.Ends.{start_low, spread_ends}
+use Rattle.gl_graph.proofs.Steps.{begins}
+use Rattle.gl_graph.proofs.Progress.{room_on}
 use Rattle.gl_graph.proofs.graph.Graph.wave.Goals as goal
 
 pub spread_all-requires-clause-within : goal.spread_all-requires-clause-within
 spread_all-requires-clause-within g c =
     let k = c.self.inside in
     let within = subst (λ (m : Kept). about c.args.command.now < length (state_of m)) (sym c.self.view_is) c.requires.within in
-    omega (arith, within, long_state k.nodes.items k.places.items, c.about.ensures, ap length c.as_slice.ensures.value)
+    omega (arith, within, long_state k.nodes.items k.positions.items, c.about.ensures, ap length c.as_slice.ensures.value)
 
 pub spread_all-requires-clause-low : goal.spread_all-requires-clause-low
 spread_all-requires-clause-low g c =
     let k = c.self.inside in
-    let within : about c.args.command.now < length (state_of (record { limit = k.limit; nodes = k.nodes.items; places = k.places.items })) =
+    let within : about c.args.command.now < length (state_of (record { limit = k.limit; nodes = k.nodes.items; positions = k.positions.items })) =
     subst (λ (m : Kept). about c.args.command.now < length (state_of m)) (sym c.self.view_is) c.requires.within in
-    let low : slice_index k.places.items c.about.result < length k.nodes.items =
-    start_low k.limit k.nodes.items k.places.items c.about.result c.self.invariant (omega (arith, within, long_state k.nodes.items k.places.items, c.about.ensures)) in
+    let low : slice_index k.positions.items c.about.result < length k.nodes.items =
+    start_low k.limit k.nodes.items k.positions.items c.about.result c.self.invariant (omega (arith, within, long_state k.nodes.items k.positions.items, c.about.ensures)) in
     let here : slice_index c.as_slice.result.now c.about.result < length k.nodes.items = subst (λ ps. slice_index ps c.about.result < length k.nodes.items) (sym c.as_slice.ensures.value) low in
     omega (arith, here)
 
@@ -35,12 +35,12 @@ pub spread_all-requires-clause-begins : goal.spread_all-requires-clause-begins
 spread_all-requires-clause-begins g c =
     let k = c.self.inside in
     let nodes = k.nodes.items in
-    let places = k.places.items in
+    let positions = k.positions.items in
     let command = c.args.command.now in
-    let lists : c.len.result ≡ length places = omega (arith, c.len.ensures) in
+    let lists : c.len.result ≡ length positions = omega (arith, c.len.ensures) in
     let told = subst (λ n. c.in_ok-deltas.deltas ≡ replicate n None) lists c.in_ok-deltas.ensures in
     subst (λ ps. IsSpread k.limit nodes ps command (Some c.about.result) (slice_index ps c.about.result) nodes c.in_ok-deltas.deltas c.new-made.result.items) (sym c.as_slice.ensures.value)
-    (begins k.limit nodes places command c.about.result c.in_ok-deltas.deltas c.new-made.result.items c.self.invariant
+    (begins k.limit nodes positions command c.about.result c.in_ok-deltas.deltas c.new-made.result.items c.self.invariant
     (subst (λ (m : Kept). about command < length (state_of m)) (sym c.self.view_is) c.requires.within)
     (subst (λ (m : Kept). Suits command (own_at (state_of m) (about command))) (sym c.self.view_is) c.requires.suits) c.about.ensures told c.new-made.ensures.items)
 
@@ -51,7 +51,7 @@ invariant_of-self g c =
     let command = c.args.command.now in
     let new = c.spread_all.new in
     let spread = subst (λ ps. IsSpread k.limit nodes ps command (Some c.about.result) (length nodes) new.nodes.items new.deltas new.made.items) c.as_slice.ensures.value c.in-Ok.ensures.spread in
-    let done = spread_ends k.limit nodes k.places.items command (Some c.about.result) new.nodes.items new.deltas new.made.items spread in
+    let done = spread_ends k.limit nodes k.positions.items command (Some c.about.result) new.nodes.items new.deltas new.made.items spread in
     done.graph
 
 pub returns-in-Ok-clause-moves : goal.returns-in-Ok-clause-moves
@@ -61,7 +61,7 @@ returns-in-Ok-clause-moves g c =
     let command = c.args.command.now in
     let new = c.spread_all.new in
     let spread = subst (λ ps. IsSpread k.limit nodes ps command (Some c.about.result) (length nodes) new.nodes.items new.deltas new.made.items) c.as_slice.ensures.value c.in-Ok.ensures.spread in
-    let done = spread_ends k.limit nodes k.places.items command (Some c.about.result) new.nodes.items new.deltas new.made.items spread in
+    let done = spread_ends k.limit nodes k.positions.items command (Some c.about.result) new.nodes.items new.deltas new.made.items spread in
     subst (λ (m : Kept). unmoved m.limit (state_of m) command ≡ None) c.self.view_is done.moves
 
 pub returns-in-Ok-clause-state : goal.returns-in-Ok-clause-state
@@ -71,7 +71,7 @@ returns-in-Ok-clause-state g c =
     let command = c.args.command.now in
     let new = c.spread_all.new in
     let spread = subst (λ ps. IsSpread k.limit nodes ps command (Some c.about.result) (length nodes) new.nodes.items new.deltas new.made.items) c.as_slice.ensures.value c.in-Ok.ensures.spread in
-    let done = spread_ends k.limit nodes k.places.items command (Some c.about.result) new.nodes.items new.deltas new.made.items spread in
+    let done = spread_ends k.limit nodes k.positions.items command (Some c.about.result) new.nodes.items new.deltas new.made.items spread in
     done.state ∙ ap (λ (m : Kept). wave (state_of m) (made_by command)) c.self.view_is
 
 pub returns-in-Ok-clause-told : goal.returns-in-Ok-clause-told
@@ -81,7 +81,7 @@ returns-in-Ok-clause-told g c =
     let command = c.args.command.now in
     let new = c.spread_all.new in
     let spread = subst (λ ps. IsSpread k.limit nodes ps command (Some c.about.result) (length nodes) new.nodes.items new.deltas new.made.items) c.as_slice.ensures.value c.in-Ok.ensures.spread in
-    let done = spread_ends k.limit nodes k.places.items command (Some c.about.result) new.nodes.items new.deltas new.made.items spread in
+    let done = spread_ends k.limit nodes k.positions.items command (Some c.about.result) new.nodes.items new.deltas new.made.items spread in
     subst (λ (m : Kept). AreTold (state_of m) command new.deltas) c.self.view_is done.told_is
 
 pub invariant_of-self-in-Err-1 : goal.invariant_of-self-in-Err-1
@@ -89,7 +89,7 @@ invariant_of-self-in-Err-1 g c =
     let k = c.self.inside in
     let lead = c.in-Err.ensures.back.lead in
     let e = c.take_back.ensures in
-    graph_same k.limit k.nodes.items c.take_back.new.nodes.items k.places.items (sym (e.numbers ∙ lead.numbers_are)) (sym (e.back ∙ lead.back)) c.self.invariant
+    graph_same k.limit k.nodes.items c.take_back.new.nodes.items k.positions.items (sym (e.numbers ∙ lead.numbers_are)) (sym (e.back ∙ lead.back)) c.self.invariant
 
 pub returns-in-Err-clause-room : goal.returns-in-Err-clause-room
 returns-in-Err-clause-room g c =

@@ -5,17 +5,17 @@ use Rattle.gl_graph.specs.declared.keeps.Keeps.TheVariants.{Over}
 use Rattle.gl_graph.specs.declared.keeps.KeepsUndo.TheVariants as u
 use Rattle.gl_graph.specs.Nodes.{own_of, shown_by}
 use Rattle.gl_graph.specs.Spread.{IsStep, IsStopped}
-use Rattle.gl_graph.proofs.Following.{following}
+use Rattle.gl_graph.proofs.Follows.{following}
 use Rattle.gl_graph.proofs.keeps.Keeps.turn.Goals as goal
 
 pub returns-in-Err-clause-stopped : goal.returns-in-Err-clause-stopped
 returns-in-Err-clause-stopped g c = λ limit limited.
-    subst (λ l. IsStopped limit (Some l) (shown_by c.args.front.now c.args.places.now) c.args.command.now c.args.deltas.now c.args.list (own_of c.args.self.now) c.in-Err.why)
+    subst (λ l. IsStopped limit (Some l) (shown_by c.args.prefix.now c.args.positions.now) c.args.command.now c.args.deltas.now c.args.list (own_of c.args.self.now) c.in-Err.why)
     c.if-list-start.true (c.in-Err.ensures.stopped limit limited)
 
 pub returns-in_ok-out-in-Some-clause-ok : goal.returns-in_ok-out-in-Some-clause-ok
 returns-in_ok-out-in-Some-clause-ok g c =
-    let shows = shown_by c.args.front.now c.args.places.now in
+    let shows = shown_by c.args.prefix.now c.args.positions.now in
     let deltas = c.args.deltas.now in
     let input = c.in-Over.input in
     let new = c.follow.new.derived in

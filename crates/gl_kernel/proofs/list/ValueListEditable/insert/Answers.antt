@@ -1,6 +1,6 @@
 use Rattle.std.proofs.Common.{◌∙◌, ap, insert}
 use Rattle.gl_kernel.specs.Values.{Stored, unnamed}
-use Rattle.gl_kernel.proofs.Naming.{unnamed-insert}
+use Rattle.gl_kernel.proofs.Names.{unnamed-insert}
 use Rattle.gl_kernel.proofs.list.ValueListEditable.insert.Goals as goal
 
 pub returns-clause-items : goal.returns-clause-items

@@ -1,7 +1,7 @@
 use Rattle.std.proofs.Common.{◌≡◌, ◌∙◌, ap, sym, map, Some, slice_get, slice_set}
 use Rattle.gl_counted.specs.Counted.{with_item}
 use Rattle.gl_kernel.specs.Values.{Stored, unnamed}
-use Rattle.gl_kernel.proofs.Naming.{value_held, unnamed-with}
+use Rattle.gl_kernel.proofs.Names.{value_held, unnamed-with}
 use Rattle.gl_kernel.proofs.list.ValueListEditable.replace.Goals as goal
 
 pub returns-clause-item : goal.returns-clause-item

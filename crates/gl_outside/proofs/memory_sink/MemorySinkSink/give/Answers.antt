@@ -5,7 +5,7 @@ pub returns-clause-part : goal.returns-clause-part
 returns-clause-part c =
     let piece = c.args.piece.now in
     record {
-      front = take c.min.result piece;
+      prefix = take c.min.result piece;
       back = drop c.min.result piece;
       whole = sym (take-append-drop c.min.result piece);
       appended = search rules;

@@ -1,6 +1,6 @@
 use Rattle.std.proofs.Common.{ap, ◌∙◌, false}
 use Rattle.std.specs.Prelude.{option_map, unwrap_or, slice_get}
-use Rattle.spec_order.specs.Turns.{has}
+use Rattle.spec_order.specs.DependencyOrder.{has}
 use Rattle.gl_plan_faults.proofs.Finds.{depends_at}
 use Rattle.gl_plan_faults.proofs.known.Known.depends_on.Goals as goal
 

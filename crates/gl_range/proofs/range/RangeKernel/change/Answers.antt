@@ -1,10 +1,10 @@
 use Rattle.std.proofs.Common.{◌≡◌, ◌∙◌, ◌++◌, length, refl, ap, arith}
-use Rattle.spec_lists.specs.Piece.{identity, normal}
-use Rattle.spec_lists.proofs.Editing.{identity_leads}
+use Rattle.spec_views.specs.Piece.{identity, normal}
+use Rattle.spec_views.proofs.DeltaEdits.{identity_leads}
 use Rattle.gl_range.specs.declared.follow.Slices.{Slices}
 use Rattle.gl_range.specs.Kept.{Kept}
 use Rattle.gl_range.specs.Told.{told_in}
-use Rattle.gl_range.proofs.Telling.{IsSlice, slice_same, follow_is, can_start}
+use Rattle.gl_range.proofs.Tellings.{IsSlice, slice_same, follow_is, can_start}
 use Rattle.gl_range.proofs.range.RangeKernel.change.Goals as goal
 
 pub tell_keeps-requires-clause-can : goal.tell_keeps-requires-clause-can

@@ -39,7 +39,7 @@ returns-clause-entries g c =
     let room_is = ap (λ (x : Ranked g.row.S.Denot). x.room) c.self.view_is in
     let slots_is = ap (λ (x : Ranked g.row.S.Denot). x.slots) c.self.view_is in
     let placed = c.put_in-placed.ensures.puts r.tree r.free (record { ranks = r.ranks; in_range = omega (arith, c.requires.in_range, size, len_is); few = omega (arith, c.requires.few, size, len_is); spare = omega (arith, c.requires.spare, size, len_is, room_is) }) in
-    entries_are m _ _ placed.tree placed.ranks.stands ∙ (placed.order ∙ ap (λ xs. insert xs c.args.place (c.put_in-placed.result.slot, c.args.own)) (sym is))
+    entries_are m _ _ placed.tree placed.ranks.stands ∙ (placed.order ∙ ap (λ xs. insert xs c.args.position (c.put_in-placed.result.slot, c.args.own)) (sym is))
 
 pub returns-clause-fresh : goal.returns-clause-fresh
 returns-clause-fresh g c =

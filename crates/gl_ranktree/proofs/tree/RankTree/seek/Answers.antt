@@ -1,7 +1,7 @@
 use Rattle.std.proofs.Common.{ap, ◌∙◌, IsTrue, subst}
 use Rattle.gl_ranktree.specs.Tree.{list_sum}
 use Rattle.gl_ranktree.proofs.Seen.{seen}
-use Rattle.gl_ranktree.proofs.Seeking.{list_sum-inorder}
+use Rattle.gl_ranktree.proofs.Seeks.{list_sum-inorder}
 use Rattle.gl_ranktree.proofs.tree.RankTree.seek.Goals as goal
 
 pub seek-requires : goal.seek-requires

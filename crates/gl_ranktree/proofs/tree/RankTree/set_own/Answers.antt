@@ -13,7 +13,7 @@ set_in-requires g c =
     let is = seen m _ _ _ r.tree r.free c.args.self.now _ _ r.ranks c.self.view_is in
     let size = length-inorder r.tree in
     let len_is = ap length is in
-    let within : c.args.place < tree_size r.tree = omega (arith, c.requires, size, len_is) in
+    let within : c.args.position < tree_size r.tree = omega (arith, c.requires, size, len_is) in
     record { tree = r.tree; stands = rw c.as_mut_slice.ensures.value r.ranks.stands; in_range = within }
 
 pub invariant_of-self : goal.invariant_of-self
@@ -23,7 +23,7 @@ invariant_of-self g c =
     let is = seen m _ _ _ r.tree r.free c.args.self.now _ _ r.ranks c.self.view_is in
     let size = length-inorder r.tree in
     let len_is = ap length is in
-    let within : c.args.place < tree_size r.tree = omega (arith, c.requires, size, len_is) in
+    let within : c.args.position < tree_size r.tree = omega (arith, c.requires, size, len_is) in
     let value = c.as_mut_slice.ensures.value in
     let out = rw value at (c.set_in.ensures r.tree c.self.inside.vacant r.free (rw value r.ranks) within) in
     rw (with_items_is c.self.inside.nodes c.set_in.new.nodes (omega (arith, out.len, c.self.inside.nodes.ok.0))) (record { tree = out.tree; free = out.free; ranks = out.ranks })
@@ -35,7 +35,7 @@ returns-clause-entries g c =
     let is = seen m _ _ _ r.tree r.free c.args.self.now _ _ r.ranks c.self.view_is in
     let size = length-inorder r.tree in
     let len_is = ap length is in
-    let within : c.args.place < tree_size r.tree = omega (arith, c.requires, size, len_is) in
+    let within : c.args.position < tree_size r.tree = omega (arith, c.requires, size, len_is) in
     let value = c.as_mut_slice.ensures.value in
     let out = rw value at (c.set_in.ensures r.tree c.self.inside.vacant r.free (rw value r.ranks) within) in
-    rw (with_items_is c.self.inside.nodes c.set_in.new.nodes (omega (arith, out.len, c.self.inside.nodes.ok.0))) (entries_are m _ _ out.tree out.ranks.stands ∙ (out.order ∙ ap (λ xs. with_own xs c.args.place c.args.own) (sym is)))
+    rw (with_items_is c.self.inside.nodes c.set_in.new.nodes (omega (arith, out.len, c.self.inside.nodes.ok.0))) (entries_are m _ _ out.tree out.ranks.stands ∙ (out.order ∙ ap (λ xs. with_own xs c.args.position c.args.own) (sym is)))

@@ -3,7 +3,7 @@ use Rattle.gl_ranktree.specs.Tree.{list_sum}
 use Rattle.gl_ranktree.specs.Nodes.{node_at}
 use Rattle.gl_ranktree.proofs.Links.{head_read}
 use Rattle.gl_ranktree.proofs.Seen.{seen}
-use Rattle.gl_ranktree.proofs.Seeking.{list_sum-inorder}
+use Rattle.gl_ranktree.proofs.Seeks.{list_sum-inorder}
 use Rattle.gl_ranktree.proofs.tree.RankTree.sum.Goals as goal
 
 pub returns : goal.returns

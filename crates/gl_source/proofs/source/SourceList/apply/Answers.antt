@@ -1,9 +1,9 @@
 use Rattle.std.proofs.Common.{◌≡◌, ◌∙◌, length, ap, sym, refl, arith}
 use Rattle.spec_lists.specs.Leads.{applied}
-use Rattle.spec_lists.proofs.Leading.{length-applied}
-use Rattle.gl_kernel.proofs.Fating.{delta_makes}
+use Rattle.spec_lists.proofs.DeltaLeads.{length-applied}
+use Rattle.gl_kernel.proofs.Fates.{delta_makes}
 use Rattle.gl_source.specs.Kept.{Kept, itself}
-use Rattle.gl_source.proofs.Logging.{map-itself}
+use Rattle.gl_source.proofs.Logs.{map-itself}
 use Rattle.gl_source.proofs.source.SourceList.apply.Goals as goal
 
 pub apply-requires-clause-within : goal.apply-requires-clause-within

@@ -4,7 +4,7 @@ use Rattle.spec_lists.specs.Piece.{Piece, new_len}
 use Rattle.spec_lists.specs.Leads.{LeadsFrom, applied}
 use Rattle.gl_source.specs.Kept.{Kept}
 use Rattle.gl_source.specs.Edits.{edited, told, IsOutside}
-use Rattle.gl_source.proofs.Leading.{edit_leads, told_len}
+use Rattle.gl_source.proofs.Leads.{edit_leads, told_len}
 use Rattle.gl_source.proofs.source.SourceList.edit.Goals as goal
 
 pub apply-requires-clause-leads : goal.apply-requires-clause-leads

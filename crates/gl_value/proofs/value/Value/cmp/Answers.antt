@@ -1,7 +1,7 @@
 use Rattle.std.proofs.Common.{sym, ap, ◌∙◌}
 use Rattle.std.specs.Cmp.{tied_itself}
 use Rattle.spec_value.specs.Order as order
-use Rattle.spec_value.proofs.OrderLaws.{cmp-equal, cmp_total}
+use Rattle.spec_value.proofs.Order.{cmp-equal, cmp_total}
 use Rattle.gl_value.proofs.value.Value.cmp.Goals as goal
 
 pub returns-clause-equal : goal.returns-clause-equal

@@ -1,17 +1,17 @@
 use Rattle.std.proofs.Common.{◌≡◌, ◌∙◌, ◌<◌, List, length, ap, sym, subst, arith, ℕ}
 use Rattle.std.specs.List.{AllByRecursion}
 use Rattle.std.proofs.lemmas.List.{get_or_default}
-use Rattle.gl_lines.specs.declared.plan.Command.{Command}
-use Rattle.gl_lines.specs.declared.plan.ListenerDecl.{ListenerDecl}
-use Rattle.spec_plans.specs.Plan.{commands_of}
+use Rattle.spec_states.specs.Command.{Command}
+use Rattle.spec_states.specs.ListenerDecl.{ListenerDecl}
+use Rattle.spec_states.specs.Plan.{commands_of}
 use Rattle.spec_runs.specs.Kinds.{IsFor}
 use Rattle.spec_runs.specs.Section.{state_after, replies_to, section_deltas}
-use Rattle.spec_runs.specs.Telling.{tellings, listener_turns}
+use Rattle.spec_runs.specs.Telling.{tellings, listener_dependency_order}
 use Rattle.spec_runs.specs.Entry.{taken_by}
 use Rattle.gl_graph.specs.Graph.{state_of}
 use Rattle.gl_graph.specs.Waves.{contents}
 use Rattle.gl_world.specs.Told.{tellings_of, told_all, all_pieces}
-use Rattle.gl_world.proofs.Entries.{Inside, world_more, world_back, world_lists, world_sound, world_suits, world_heard, world_turns, world_told}
+use Rattle.gl_world.proofs.Entries.{Inside, world_more, world_back, world_lists, world_sound, world_suits, world_heard, world_order, world_told}
 use Rattle.gl_world.proofs.world.World.section.Goals as goal
 
 pub take_all-requires-clause-lists : goal.take_all-requires-clause-lists
@@ -54,10 +54,10 @@ enter-requires-clause-known g c =
     let w = c.self.inside in
     let i : Inside = record { plan = w.plan; order = w.log.order.items; graph = w.graph; replies = w.log.replies; told = w.log.told.items; taken = w.taken.items } in
     let P : List ℕ → Type 0 = λ ks. AllByRecursion (λ k. k < length c.listeners.result.now) ks in
-    let Q : List ListenerDecl → Type 0 = λ ls. AllByRecursion (λ k. k < length ls) (listener_turns w.plan) in
+    let Q : List ListenerDecl → Type 0 = λ ls. AllByRecursion (λ k. k < length ls) (listener_dependency_order w.plan) in
     subst P (sym c.listener_order.ensures)
     (subst Q (sym c.listeners.ensures.listeners)
-    (world_turns i c.self.invariant))
+    (world_order i c.self.invariant))
 
 pub invariant_of-self-in-Ok : goal.invariant_of-self-in-Ok
 invariant_of-self-in-Ok g c =

@@ -1,0 +1,198 @@
+-- How a command begins to spread, and what holds once it came to the last place.
+use Rattle.std.proofs.Common.{◌≡◌, ◌∙◌, ℕ, zero, suc, ◌<◌, ◌≤◌, Bool, true, false, nat_le, if◌then◌else◌, List, [], ◌∷◌, length, take, replicate, refl, ap, sym, subst, arith, inl, inr}
+use Rattle.std.specs.Prelude.{Option, Some, None, slice_get, slice_index, slice_index_or}
+use Rattle.std.specs.Option.{option_or}
+use Rattle.std.specs.List.{Contains}
+use Rattle.std.proofs.lemmas.Bool.{leb-true}
+use Rattle.std.proofs.lemmas.List.{length-map}
+use Rattle.std.proofs.lemmas.Option.{slice_get_within}
+use Rattle.spec_states.proofs.Members.{Contains-cons_cases}
+use Rattle.spec_states.specs.Command.{Command}
+use Rattle.spec_states.specs.Reply.TheVariants as reply
+use Rattle.gl_source.specs.Model.{DeltaModel}
+use Rattle.spec_states.specs.Plan.{origin as about}
+use Rattle.spec_states.specs.State.{State, own_at, dependency_order}
+use Rattle.spec_states.specs.Laws.{IsOrdered}
+use Rattle.spec_states.specs.Shown.{Table, shows_in, shown, table_of}
+use Rattle.spec_states.specs.Wave.{command, wave}
+use Rattle.spec_states.specs.Step.{first_longer, refusal, too_long, unmoved}
+use Rattle.spec_states.proofs.DependencyOrder.{ordered as order_of}
+use Rattle.spec_states.proofs.Views.{wave_ordered, wave_order}
+use Rattle.gl_graph.specs.declared.node.Node.{Node}
+use Rattle.gl_graph.specs.Nodes.{own_of_node, numbers, state_of, IsPlaced, AreSettled}
+use Rattle.gl_graph.specs.Graph.{IsGraph}
+use Rattle.gl_graph.specs.Undos.{room_of}
+use Rattle.gl_graph.specs.Waves.{Made, by_position, AreTold, CanAllGoBack, HaveRoomOf}
+use Rattle.gl_graph.specs.Spread.{HasBegun, IsBegun, AreInverse, HaveBack, IsSpread}
+use Rattle.gl_graph.proofs.Plain.{own_at_state, long_state}
+use Rattle.gl_graph.proofs.Taken.{none_back}
+use Rattle.gl_graph.proofs.Shown.{order_of_settled, member_at}
+use Rattle.gl_graph.proofs.Prefixes.{node_of}
+use Rattle.gl_graph.proofs.Starts.{same_state}
+use Rattle.gl_graph.proofs.Dispatch.{take_all}
+use Rattle.gl_graph.proofs.Next.{long_wave, start_about}
+use Rattle.gl_graph.proofs.Refusals.{prefix_few, unmoved_by}
+use Rattle.spec_states.proofs.Lists.{replicate_at}
+use Rattle.spec_states.proofs.Longer.{none_longer, few_shown}
+
+pub shown_few : (limit : ℕ) (old : List Node) (positions : List ℕ) → IsGraph limit old positions → (list : ℕ) → list < length positions → length (shown (state_of old positions) list) ≤ limit
+shown_few limit old positions g list within =
+    let s : State = state_of old positions in
+    none_longer limit (table_of s) (dependency_order s) list g.within (subst (λ xs. Contains xs list) (sym g.order) (member_at (numbers old) (slice_index positions list) list (g.placed list within).there))
+
+-- a list has its place below the number of nodes
+pub start_low : (limit : ℕ) (old : List Node) (positions : List ℕ) (list : ℕ) → IsGraph limit old positions → list < length positions → slice_index positions list < length old
+start_low limit old positions list g within =
+    let low : slice_index positions list < length (numbers old) = slice_get_within (numbers old) (slice_index positions list) list (g.placed list within).there in
+    omega (arith, low, length-map old (λ (n : Node). n.list))
+
+-- there are few nodes
+pub nodes_few : (limit : ℕ) (old : List Node) (positions : List ℕ) → IsGraph limit old positions → length old ≤ 256
+nodes_few limit old positions g =
+    let s : State = state_of old positions in
+    let whole : length (dependency_order s) ≡ length s = (order_of s g.ordered).whole in
+    omega (arith, whole, ap length g.order, length-map old (λ (n : Node). n.list), long_state old positions, g.few_lists)
+
+all_long : {X : Type 0} (x : X) (n : ℕ) → length (replicate n x) ≡ n
+all_long x zero = refl
+all_long x (suc n) = ap suc (all_long x n)
+
+all_get : {X : Type 0} (x : X) (n k : ℕ) → k < n → slice_get (replicate n x) k ≡ Some x
+all_get x zero k h = absurd (omega (arith, h))
+all_get x (suc n) zero h = refl
+all_get x (suc n) (suc k) h = all_get x n k (omega (arith, h))
+
+none_can : (n : ℕ) (nodes : List Node) → CanAllGoBack (replicate n None) nodes
+none_can n [] = tt
+none_can zero (m ∷ nodes) = tt
+none_can (suc n) (m ∷ nodes) = (tt, none_can n nodes)
+
+same_room : (nodes : List Node) → HaveRoomOf nodes nodes
+same_room nodes p a b at_a at_b =
+    let both : Some a ≡ Some b = sym at_a ∙ at_b in
+    let one : a ≡ b = cc in
+    subst (λ (m : Node). room_of a.keeps ≤ room_of m.keeps) one (omega arith)
+
+pub spread_begins : (limit : ℕ) (old : List Node) (positions : List ℕ) (c : Command) (start : Option ℕ) (told : List (Option DeltaModel)) (made : Made) → IsBegun limit old positions c start
+    → told ≡ replicate (length positions) None → made ≡ [] → IsSpread limit old positions c start 0 old told made
+spread_begins limit old positions c start told made begun told_is made_is = record {
+  begun = begun;
+  inverted = record {
+    numbers_are = refl;
+    dependency_order = order_of_settled old positions begun.graph.settled;
+    settled = λ p n at. absurd (nothing p n at);
+    own = λ p n low at. absurd (omega (arith, low));
+    rest = λ p high. refl;
+    limited = begun.graph.limited;
+    few = λ list within low. absurd (omega (arith, low));
+    inside = λ begun_already. absurd (not_yet begun_already);
+  };
+  told_to = record {
+    long = ap length told_is ∙ all_long None (length positions);
+    each = λ list within low. absurd (omega (arith, low));
+    same = λ list within low none. absurd (omega (arith, low));
+    others = λ list within high. none list;
+    quiet = λ no list. none list;
+  };
+  back = subst (HaveBack old old) (sym made_is) (record {
+    lead = record {
+      numbers_are = refl;
+      back = none_back (length old) old;
+      can = none_can (length old) old;
+      room = same_room old;
+    };
+    apart = tt;
+  });
+  waiting = λ p high within. ap (λ ms. slice_get (by_position (length old) ms) p) made_is ∙ all_get None (length old) p within;
+}
+  where
+    not_yet : HasBegun positions start 0 → ⊥
+    not_yet h = never (subst (λ o. HasBegun positions o 0) (start_about limit old positions c start begun) h)
+      where
+        never : slice_index positions (about c) < 0 → ⊥
+        never low = omega (arith, low)
+
+    none : (list : ℕ) → slice_index_or told list None ≡ None
+    none list = ap (λ ts. slice_index_or ts list None) told_is ∙ replicate_at None (length positions) list
+
+    nothing : (p : ℕ) (n : Node) → slice_get [] p ≡ Some n → ⊥
+    nothing p n e = absurd cc
+
+-- the command came to the last place
+pub record IsDone (limit : ℕ) (old : List Node) (positions : List ℕ) (c : Command) (start : Option ℕ) (nodes : List Node) (told : List (Option DeltaModel)) (made : Made) : Type 0 where
+  pub moves : unmoved limit (state_of old positions) c ≡ None
+  pub state : state_of nodes positions ≡ wave (state_of old positions) (command c)
+  pub told_is : AreTold (state_of old positions) c told
+  pub graph : IsGraph limit nodes positions
+  pub back : HaveBack old nodes made
+
+take_nodes : (nodes : List Node) (n : ℕ) → length nodes ≡ n → take n nodes ≡ nodes
+take_nodes [] zero e = refl
+take_nodes [] (suc n) e = refl
+take_nodes (m ∷ nodes) zero e = absurd (omega (arith, e))
+take_nodes (m ∷ nodes) (suc n) e = ap (λ xs. m ∷ xs) (take_nodes nodes n (omega (arith, e)))
+
+pub spread_ends : (limit : ℕ) (old : List Node) (positions : List ℕ) (c : Command) (start : Option ℕ) (nodes : List Node) (told : List (Option DeltaModel)) (made : Made)
+    → IsSpread limit old positions c start (length old) nodes told made → IsDone limit old positions c start nodes told made
+spread_ends limit old positions c start nodes told made h = record {
+  moves = unmoved_by limit old positions c start h.begun ∙ (ap (λ r. option_or r (too_long limit w)) inside ∙ few);
+  state = state;
+  told_is = record {
+    long = h.told_to.long ∙ sym (long_state old positions);
+    each = λ list within. let low : list < length positions = omega (arith, within, long_state old positions) in h.told_to.each list low (position_low list low);
+  };
+  graph = record {
+    few_lists = g.few_lists;
+    few = g.few;
+    placed = placed;
+    ordered = subst IsOrdered (sym state) (wave_ordered s (command c) g.ordered);
+    order = ap dependency_order state ∙ (wave_order s (command c) ∙ (g.order ∙ sym t.numbers_are));
+    settled = subst (λ xs. AreSettled xs positions) (take_nodes nodes (length old) long_nodes) t.settled;
+    limited = t.limited;
+    within = ap (too_long limit) state ∙ few;
+  };
+  back = h.back;
+}
+  where
+    s : State
+    s = state_of old positions
+
+    w : State
+    w = wave s (command c)
+
+    g : IsGraph limit old positions
+    g = h.begun.graph
+
+    t : AreInverse limit old positions c start (length old) nodes
+    t = h.inverted
+
+    long_numbers : (ns : List Node) → length (numbers ns) ≡ length ns
+    long_numbers ns = length-map ns (λ (n : Node). n.list)
+
+    long_nodes : length nodes ≡ length old
+    long_nodes = sym (long_numbers nodes) ∙ (ap length t.numbers_are ∙ long_numbers old)
+
+    position_low : (list : ℕ) → list < length positions → slice_index positions list < length old
+    position_low list within =
+        let low : slice_index positions list < length (numbers old) = slice_get_within (numbers old) (slice_index positions list) list (g.placed list within).there in
+        omega (arith, low, long_numbers old)
+
+    placed : (list : ℕ) → list < length positions → IsPlaced nodes positions list
+    placed list within = record { within = within; there = subst (λ xs. slice_get xs (slice_index positions list) ≡ Some list) (sym t.numbers_are) (g.placed list within).there }
+
+    inside : refusal s c ≡ None
+    inside = t.inside (subst (λ o. HasBegun positions o (length old)) (sym (start_about limit old positions c start h.begun))
+        (position_low (about c) (omega (arith, h.begun.within, long_state old positions))))
+
+    few : too_long limit w ≡ None
+    few = few_shown limit (table_of w) (dependency_order w) (λ y among. prefix_few limit old positions c start (length old) nodes h.begun t y
+        (subst (λ xs. Contains xs y) (sym (ap (λ n. take n (numbers old)) (sym (long_numbers old)) ∙ take_all (numbers old))) (subst (λ xs. Contains xs y) (wave_order s (command c) ∙ g.order) among)))
+
+    same : (list : ℕ) → list < length w → own_at (state_of nodes positions) list ≡ own_at w list
+    same list within =
+        let low : list < length positions = omega (arith, within, long_wave old positions c) in
+        let n = node_of nodes (slice_index positions list) list (placed list low).there in
+        own_at_state nodes positions list low ∙ (ap own_of_node n.is ∙ (t.own (slice_index positions list) n.node (position_low list low) n.is ∙ ap (own_at w) n.same))
+
+    state : state_of nodes positions ≡ w
+    state = same_state (state_of nodes positions) w (long_state nodes positions ∙ sym (long_wave old positions c)) same

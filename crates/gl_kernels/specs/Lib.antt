@@ -1,0 +1,5 @@
+pub use Rattle.gl_filter.specs.Stands
+pub use Rattle.gl_filter.specs.Told
+pub use Rattle.gl_range.specs.Kept
+pub use Rattle.gl_range.specs.Stands as RangeStands
+pub use Rattle.gl_function.specs.Stands as FunctionStands

@@ -1,0 +1,12 @@
+pub mod Joins
+pub mod Tables
+pub mod Names
+pub mod Parts
+pub mod Words
+pub mod Funcs
+pub mod Chains
+pub mod Columns
+pub mod Members
+pub mod Endings
+pub mod Lines
+pub mod Forms

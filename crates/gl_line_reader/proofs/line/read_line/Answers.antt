@@ -1,0 +1,30 @@
+use Rattle.std.proofs.Common.{◌≡◌, ℕ, ◌<◌, true, false, eqb, sym, subst, arith}
+use Rattle.std.proofs.lemmas.Bool.Decides.{nat_tests}
+use Rattle.spec_syntax.specs.Reader.{stopped}
+use Rattle.spec_lines.specs.Line.{line_of_text}
+use Rattle.gl_syntax.specs.Fault.{IsFault}
+use Rattle.gl_syntax.specs.Stop.{IsStop}
+use Rattle.gl_line_reader.specs.Keywords.{read_any_line}
+use Rattle.gl_line_reader.proofs.Lines.{spelled_all, spelled_prefix, spelled_none, left_le, rest_of}
+use Rattle.gl_line_reader.proofs.line.read_line.Goals as goal
+
+none_left : (n : ℕ) → true ≡ eqb n 0 → n ≡ 0
+none_left n h = grind (arith, nat_tests)
+
+some_left : (n : ℕ) → false ≡ eqb n 0 → 0 < n
+some_left n h = grind (arith, nat_tests)
+
+pub returns-then-is_empty : goal.returns-then-is_empty
+returns-then-is_empty c = spelled_all c.args.bytes.now c.in-Ok.line c.in-Ok.rest.now c.in-Ok.ensures (none_left _ c.if-is_empty.ensures)
+
+pub returns-else-is_empty : goal.returns-else-is_empty
+returns-else-is_empty c =
+    subst (IsFault line_of_text c.args.bytes.now) (sym c.fault_at.ensures)
+    (spelled_prefix c.args.bytes.now c.in-Ok.line c.in-Ok.rest.now _ c.in-Ok.ensures (some_left _ c.if-is_empty.ensures)
+    (omega (arith, rest_of c.args.bytes.now c.in-Ok.line c.in-Ok.rest.now c.in-Ok.ensures)))
+
+pub returns-in-Err-Form : goal.returns-in-Err-Form
+returns-in-Err-Form c =
+    let stops : read_any_line c.args.bytes.now ≡ stopped c.in-Err-Form.left = subst (IsStop (read_any_line c.args.bytes.now)) c.in-Err-Form.field-0-is c.in-Err-Form.ensures in
+    subst (IsFault line_of_text c.args.bytes.now) (sym c.fault_at-in-Err-Form.ensures)
+    (spelled_none c.args.bytes.now c.in-Err-Form.left _ stops (omega (arith, left_le c.args.bytes.now c.in-Err-Form.left stops)))

@@ -1,6 +1,0 @@
-use Rattle.std.proofs.Common.{◌-◌}
-use Rattle.gl_ranktree.specs.Nodes.{node_at}
-use Rattle.gl_ranktree.proofs.find.+places_before.Given as goal
-
-abbrev pub decreases-places_before : goal.decreases-places_before
-decreases-places_before g l = 4294967296 - (node_at g.S.Summary.sums l.nodes.now l.slot).height

@@ -1,7 +1,0 @@
-use Rattle.std.proofs.Common.{take}
-use Rattle.csv.specs.Records.{fields_of}
-use Rattle.spec_csv.specs.Block.{AreFields}
-use Rattle.gl_text.proofs.block.row.Given as goal
-
-abbrev pub invariant-loop-i : goal.invariant-loop-i
-invariant-loop-i l = AreFields (take l.i (fields_of l.entry)) l.values

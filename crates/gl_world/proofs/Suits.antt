@@ -1,0 +1,98 @@
+-- A command that is for the lists of a state, and isn't `show`, suits what its list keeps.
+use Rattle.std.proofs.Common.{◌≡◌, ℕ, zero, suc, List, [], ◌∷◌, length, map, sym, subst}
+use Rattle.std.specs.Prelude.{⊤, Option, Some, None, slice_get, slice_index}
+use Rattle.std.specs.List.{range_with_len}
+use Rattle.spec_states.specs.Command.{Command}
+use Rattle.spec_states.specs.Command.TheVariants as c
+use Rattle.spec_states.specs.ListClass.{ListClass}
+use Rattle.spec_states.specs.ListClass.TheVariants as class
+use Rattle.spec_states.specs.Plan.{origin as about}
+use Rattle.spec_states.specs.WellFormed.{needed_class}
+use Rattle.spec_states.specs.View.{filter, sorted, unique, grouping, range, function, collection}
+use Rattle.spec_states.specs.State.{Own, State, source, over, composite, transaction, freezable, proxy, own_at}
+use Rattle.spec_states.specs.Wave.{parameter_of}
+use Rattle.spec_runs.specs.Kinds.{class_of_own, HasClass, IsFor, IsChange}
+use Rattle.spec_states.proofs.Plain.{IsPlainOwn, IsPlain}
+use Rattle.gl_graph.specs.declared.keeps.Keeps.{Keeps}
+use Rattle.gl_graph.specs.declared.keeps.Keeps.TheVariants.{Source, Over}
+use Rattle.gl_graph.specs.declared.node.Node.{Node}
+use Rattle.gl_graph.specs.Nodes.{own_of, own_of_node, own_in}
+use Rattle.gl_graph.specs.Graph.{Kept, state_of}
+use Rattle.gl_graph.specs.Commands.{IsEdit, IsMatcher, IsOrder, IsBounds, IsFunc, Suits}
+
+-- the command is one for the lists of a class
+abbrev ForClass : ListClass → Command → Type 0
+ForClass class.Edited command = IsEdit command
+ForClass class.Filtered command = IsMatcher (parameter_of command)
+ForClass class.Ordered command = IsOrder (parameter_of command)
+ForClass class.Bounded command = IsBounds (parameter_of command)
+ForClass class.Mapped command = IsFunc (parameter_of command)
+ForClass class.Collected command = ⊥
+ForClass class.Composed command = ⊤
+ForClass class.Undone command = ⊤
+ForClass class.Frozen command = ⊤
+ForClass class.Pumped command = ⊤
+
+for_own : (command : Command) (own : Own) (needed : ListClass) → class_of_own own ≡ needed → ForClass needed command
+    → ForClass (class_of_own own) command
+for_own command own needed is h = subst (λ k. ForClass k command) (sym is) h
+
+by_class : (command : Command) (own : Own) → IsChange command → HasClass (needed_class command) own
+    → ForClass (class_of_own own) command
+by_class (c.Add list value) own change is = for_own (c.Add list value) own class.Edited is tt
+by_class (c.AddAll list values) own change is = for_own (c.AddAll list values) own class.Edited is tt
+by_class (c.Insert list index value) own change is = for_own (c.Insert list index value) own class.Edited is tt
+by_class (c.Set list index value) own change is = for_own (c.Set list index value) own class.Edited is tt
+by_class (c.Remove list index) own change is = for_own (c.Remove list index) own class.Edited is tt
+by_class (c.Clear list) own change is = for_own (c.Clear list) own class.Edited is tt
+by_class (c.Match list matcher) own change is = for_own (c.Match list matcher) own class.Filtered is tt
+by_class (c.Order list order) own change is = for_own (c.Order list order) own class.Ordered is tt
+by_class (c.Bounds list bounds) own change is = for_own (c.Bounds list bounds) own class.Bounded is tt
+by_class (c.Apply list func) own change is = for_own (c.Apply list func) own class.Mapped is tt
+by_class (c.Attach list member) own change is = for_own (c.Attach list member) own class.Composed is tt
+by_class (c.Detach list index) own change is = for_own (c.Detach list index) own class.Composed is tt
+by_class (c.Begin list) own change is = for_own (c.Begin list) own class.Undone is tt
+by_class (c.Commit list) own change is = for_own (c.Commit list) own class.Undone is tt
+by_class (c.Rollback list) own change is = for_own (c.Rollback list) own class.Undone is tt
+by_class (c.Freeze list) own change is = for_own (c.Freeze list) own class.Frozen is tt
+by_class (c.Thaw list) own change is = for_own (c.Thaw list) own class.Frozen is tt
+by_class (c.Show list) own change is = absurd change
+
+suits_class : (command : Command) (own : Own) → IsPlainOwn own → ForClass (class_of_own own) command → Suits command own
+suits_class command (source contents) plain h = h
+suits_class command (over input (filter matcher)) plain h = h
+suits_class command (over input (sorted keys)) plain h = h
+suits_class command (over input (unique keys)) plain h = h
+suits_class command (over input (grouping keys)) plain h = h
+suits_class command (over input (range bounds)) plain h = h
+suits_class command (over input (function func)) plain h = h
+suits_class command (over input (collection path)) plain h = h
+suits_class command (composite needed members) plain h = absurd plain
+suits_class command (transaction input levels) plain h = absurd plain
+suits_class command (freezable input since) plain h = absurd plain
+suits_class command (proxy input kept queue) plain h = absurd plain
+
+-- the lists of a graph are sources and lists over one input
+plain_map : (f : ℕ → Own) → ((k : ℕ) → IsPlainOwn (f k)) → (ks : List ℕ) → IsPlain (map f ks)
+plain_map f h [] list = tt
+plain_map f h (k ∷ ks) zero = h k
+plain_map f h (k ∷ ks) (suc list) = plain_map f h ks list
+
+own_plain : (keeps : Keeps) → IsPlainOwn (own_of keeps)
+own_plain (Source k) = tt
+own_plain (Over input d) = tt
+
+node_plain : (node : Option Node) → IsPlainOwn (own_of_node node)
+node_plain None = tt
+node_plain (Some node) = own_plain node.keeps
+
+pub graph_plain : (k : Kept) → IsPlain (state_of k)
+graph_plain k =
+    plain_map (own_in k.nodes k.positions) (λ list. node_plain (slice_get k.nodes (slice_index k.positions list)))
+    (range_with_len 0 (length k.positions))
+
+pub graph_suits : (k : Kept) (command : Command) → IsFor command (state_of k) → IsChange command
+    → Suits command (own_at (state_of k) (about command))
+graph_suits k command h change =
+    let own : Own = own_at (state_of k) (about command) in
+    suits_class command own (graph_plain k (about command)) (by_class command own change h.suits)

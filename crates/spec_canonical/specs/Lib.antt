@@ -1,4 +1,0 @@
-pub mod Canonical
-pub mod Unplaced
-pub mod WellFormed
-pub mod Rows

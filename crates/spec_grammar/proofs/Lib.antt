@@ -1,9 +1,0 @@
-pub mod Missed
-pub mod Reading
-pub mod Sequences
-pub mod Choices
-pub mod Repetitions
-pub mod Folds
-pub mod Joints
-pub mod Tables
-pub mod Wholes

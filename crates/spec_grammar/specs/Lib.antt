@@ -1,4 +1,0 @@
-pub mod Grammar
-pub mod Language
-pub mod Reader
-pub mod Rows

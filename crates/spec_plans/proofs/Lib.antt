@@ -1,0 +1,20 @@
+pub mod Numbers
+pub mod Said
+pub mod Made
+pub mod Used
+pub mod SoundLists
+pub mod SoundNeeds
+pub mod SoundCommands
+pub mod SoundUndone
+pub mod SoundFew
+pub mod Walks
+pub mod SoundProxies
+pub mod Sound
+pub mod Within
+pub mod Sections
+pub use Rattle.spec_order.proofs.Exists
+pub use Rattle.spec_order.proofs.Acyclic
+pub use Rattle.spec_order.proofs.Members
+pub use Rattle.spec_order.proofs.Prefixes
+pub mod Lasts
+pub use Rattle.spec_basics.proofs.Numbers as BasicsNumbers
