@@ -1,0 +1,5 @@
+pub mod Ranks
+pub mod Notes
+pub mod Lists
+pub mod Backward
+pub use Rattle.spec_lang.proofs.Sortings

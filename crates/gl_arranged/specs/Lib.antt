@@ -1,0 +1,6 @@
+pub mod Changes
+pub mod Kept
+pub mod Notes
+pub mod Stands
+pub mod Steps
+pub use Rattle.spec_lang.specs.Sorting

@@ -1,0 +1,9 @@
+pub mod Shown
+pub mod Replacement
+pub mod Positions
+pub mod Leavings
+pub mod Merges
+pub mod DependencyOrder
+pub mod Settled
+pub mod Kept
+pub mod Laws

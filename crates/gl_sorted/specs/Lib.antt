@@ -1,0 +1,4 @@
+pub mod Leaves
+pub mod Merging
+pub mod Replaced
+pub mod Next

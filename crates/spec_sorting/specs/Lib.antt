@@ -1,0 +1,15 @@
+pub mod Moves
+pub mod Merged
+pub mod Ranked
+pub mod Rows
+pub use Rattle.spec_lists.specs.Piece
+pub use Rattle.spec_lists.specs.Sides
+pub use Rattle.spec_lists.specs.Leads
+pub use Rattle.spec_lists.specs.Cells
+pub use Rattle.spec_value.specs.Tree
+pub use Rattle.spec_views.specs.Arrangement
+pub use Rattle.spec_views.specs.Sorted
+pub use Rattle.spec_views.specs.Source
+pub use Rattle.spec_lists.specs.Making
+pub use Rattle.spec_lists.specs.Pairs
+pub use Rattle.spec_lists.specs.Delta
