@@ -1,0 +1,4 @@
+pub mod Made
+pub mod Pairs
+pub mod Told
+pub mod Balances

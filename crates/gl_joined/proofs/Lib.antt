@@ -1,0 +1,10 @@
+pub mod Entries
+pub mod Parts
+pub mod Joined
+pub use Rattle.spec_lists.proofs.Normal
+pub use Rattle.spec_lists.proofs.Made
+pub use Rattle.spec_lists.proofs.Plains
+pub use Rattle.spec_lists.proofs.DeltaEdits
+pub use Rattle.spec_lists.proofs.DeltaLeads
+pub use Rattle.spec_lists.proofs.DeltaChanges
+pub use Rattle.spec_lists.proofs.Lengths

@@ -1,0 +1,12 @@
+pub mod Length
+pub mod Sums
+pub mod Kept
+pub mod Located
+pub mod Lone
+pub use Rattle.spec_lists.specs.Piece
+pub use Rattle.spec_value.specs.Tree
+pub use Rattle.spec_lists.specs.Leads
+pub use Rattle.spec_lists.specs.Cells
+pub use Rattle.spec_lists.specs.Pairs
+pub use Rattle.spec_lists.specs.Making
+pub use Rattle.spec_lists.specs.Delta
