@@ -26,6 +26,7 @@ fn is_built_kind(kind: &ListKind) -> bool
     match kind {
         ListKind::Source { .. } => true,
         ListKind::Filter { .. } => true,
+        ListKind::Sorted { .. } => true,
         ListKind::Range { .. } => true,
         ListKind::Function { .. } => true,
         _ => false,

@@ -22,10 +22,10 @@ use Rattle.gl_graph.specs.declared.node.Node.{Node}
 use Rattle.gl_graph.specs.Nodes.{own_of_node, numbers, state_of, IsPlaced, AreSettled}
 use Rattle.gl_graph.specs.Graph.{IsGraph}
 use Rattle.gl_graph.specs.Undos.{room_of}
-use Rattle.gl_graph.specs.Waves.{Made, by_position, AreTold, CanAllGoBack, HaveRoomOf}
+use Rattle.gl_graph.specs.Waves.{Made, by_position, undo_at, room_one, AreTold, CanAllGoBack, HaveRoomBack}
 use Rattle.gl_graph.specs.Spread.{HasBegun, IsBegun, AreInverse, HaveBack, IsSpread}
 use Rattle.gl_graph.proofs.Plain.{own_at_state, long_state}
-use Rattle.gl_graph.proofs.Taken.{none_back}
+use Rattle.gl_graph.proofs.Taken.{none_back, no_undo}
 use Rattle.gl_graph.proofs.Shown.{order_of_settled, member_at}
 use Rattle.gl_graph.proofs.Prefixes.{node_of}
 use Rattle.gl_graph.proofs.Starts.{same_state}
@@ -67,11 +67,13 @@ none_can n [] = tt
 none_can zero (m ∷ nodes) = tt
 none_can (suc n) (m ∷ nodes) = (tt, none_can n nodes)
 
-same_room : (nodes : List Node) → HaveRoomOf nodes nodes
-same_room nodes p a b at_a at_b =
+-- without undos the nodes have the room that they have
+same_room : (n : ℕ) (nodes : List Node) → HaveRoomBack [] nodes (replicate n None) nodes
+same_room n nodes p a b at_a at_b =
     let both : Some a ≡ Some b = sym at_a ∙ at_b in
     let one : a ≡ b = cc in
-    subst (λ (m : Node). room_of a.keeps ≤ room_of m.keeps) one (omega arith)
+    subst (λ (m : Node). room_of a.keeps ≤ room_one (undo_at (replicate n None) p) m.keeps) one
+    (subst (λ u. room_of a.keeps ≤ room_one u a.keeps) (sym (no_undo n p)) (omega arith))
 
 pub spread_begins : (limit : ℕ) (old : List Node) (positions : List ℕ) (c : Command) (start : Option ℕ) (told : List (Option DeltaModel)) (made : Made) → IsBegun limit old positions c start
     → told ≡ replicate (length positions) None → made ≡ [] → IsSpread limit old positions c start 0 old told made
@@ -99,7 +101,7 @@ spread_begins limit old positions c start told made begun told_is made_is = reco
       numbers_are = refl;
       back = none_back (length old) old;
       can = none_can (length old) old;
-      room = same_room old;
+      room = same_room (length old) old;
     };
     apart = tt;
   });

@@ -10,7 +10,7 @@ use Rattle.gl_graph.specs.Nodes.{numbers}
 use Rattle.gl_graph.specs.Nodes as made
 use Rattle.gl_graph.specs.Undos as keeps
 use Rattle.gl_graph.specs.Graph.{Kept, IsGraph, state_of}
-use Rattle.gl_graph.specs.Waves.{Contents, by_position, AreApart, contents, contents_of, before, before_one, before_all, CanGoBack, CanAllGoBack, HaveRoomOf, IsUndo, CanRetreat}
+use Rattle.gl_graph.specs.Waves.{Contents, by_position, AreApart, contents, contents_of, before, before_one, before_all, room_one, CanGoBack, CanAllGoBack, HaveRoomBack, HaveRoomOf, IsUndo, CanRetreat}
 use Rattle.gl_graph.proofs.Rooms.{before_same, retreat_same}
 use Rattle.gl_graph.proofs.Alike.{state_same, graph_same}
 
@@ -52,7 +52,29 @@ can_all_same (undo ∷ undos) (m ∷ a) (n ∷ b) e room can =
     one_more : (undo : Option KeepsUndo) (a b : Keeps) → keeps.contents a ≡ keeps.contents b
         → keeps.room_of a ≤ keeps.room_of b → CanGoBack undo a → CanGoBack undo b
     one_more None a b e more can = tt
-    one_more (Some undo) a b e more can = retreat_same undo a b e more can
+    one_more (Some undo) a b e more can = (retreat_same undo a b e more can).can
+
+-- and then has no less
+pub rooms_same : (undos : List (Option KeepsUndo)) (a b : List Node) → contents_of a ≡ contents_of b
+    → HaveRoomOf a b → CanAllGoBack undos a → HaveRoomBack undos a undos b
+rooms_same [] a b e room can position x y is_x is_y = room position x y is_x is_y
+rooms_same (undo ∷ undos) [] b e room can position x y is_x is_y = absurd cc
+rooms_same (undo ∷ undos) (m ∷ a) [] e room can position x y is_x is_y = absurd cc
+rooms_same (undo ∷ undos) (m ∷ a) (n ∷ b) e room can zero x y is_x is_y =
+    let first : keeps.contents m.keeps ≡ keeps.contents n.keeps = cc in
+    let left : m ≡ x = cc in
+    let right : n ≡ y = cc in
+    subst (λ (k : Node). room_one undo k.keeps ≤ room_one undo y.keeps) left
+    (subst (λ (k : Node). room_one undo m.keeps ≤ room_one undo k.keeps) right
+    (one_room undo m.keeps n.keeps first (room 0 m n refl refl) can.0))
+  where
+    one_room : (undo : Option KeepsUndo) (a b : Keeps) → keeps.contents a ≡ keeps.contents b
+        → keeps.room_of a ≤ keeps.room_of b → CanGoBack undo a → room_one undo a ≤ room_one undo b
+    one_room None a b e more can = more
+    one_room (Some undo) a b e more can = (retreat_same undo a b e more can).room
+rooms_same (undo ∷ undos) (m ∷ a) (n ∷ b) e room can (suc position) x y is_x is_y =
+    let rest : contents_of a ≡ contents_of b = cc in
+    rooms_same undos a b rest (room_rest m n a b room) can.1 position x y is_x is_y
 
 -- a graph has the room that it has
 pub room_same : (a : List Node) → HaveRoomOf a a
@@ -75,9 +97,10 @@ node_there (m ∷ a) (n ∷ b) e (suc position) x is =
     let t = node_there a b rest position x is in
     record { node = t.node; is = t.is }
 
--- no room is lost on the way from the first over the second to the third
-pub room_on : (a b c : List Node) → numbers a ≡ numbers b → HaveRoomOf a b → HaveRoomOf b c → HaveRoomOf a c
-room_on a b c e h k position x z is_x is_z =
+-- no room is lost on the way from the first nodes over the second to the third
+pub room_on : (us vs ws : List (Option KeepsUndo)) (a b c : List Node) → numbers a ≡ numbers b → HaveRoomBack us a vs b
+    → HaveRoomBack vs b ws c → HaveRoomBack us a ws c
+room_on us vs ws a b c e h k position x z is_x is_z =
     let t = node_there a b e position x is_x in
     omega (arith, h position x t.node is_x t.is, k position t.node z t.is is_z)
 
@@ -115,19 +138,6 @@ undo_same undo old mid now is e =
     with_lists : Contents → List keeps.Contents → Contents
     with_lists c ks = record { limit = c.limit; numbers = c.numbers; lists = ks; positions = c.positions }
 
--- and can be made there if the room is no less
-pub undo_carries : (undo : GraphUndo) (old mid now : Kept)
-    → IsUndo undo old mid → contents now ≡ contents mid → HaveRoomOf mid.nodes now.nodes → IsUndo undo old now
-undo_carries undo old mid now is e room =
-    let lists : contents_of mid.nodes ≡ contents_of now.nodes = ap (λ (c : Contents). c.lists) (sym e) in
-    let long : length mid.nodes ≡ length now.nodes = same_long mid.nodes now.nodes lists in
-    record {
-      back = undo_same undo old mid now is e;
-      can = subst (λ n. CanAllGoBack (by_position n undo.made.items) now.nodes) long
-          (can_all_same (by_position (length mid.nodes) undo.made.items) mid.nodes now.nodes lists room is.can);
-      apart = subst (λ n. AreApart n undo.made.items) long is.apart;
-    }
-
 -- a change that has an undo leaves the numbers of the nodes, their places and the limit
 pub undo_numbers : (undo : GraphUndo) (old new : Kept) → IsUndo undo old new → numbers old.nodes ≡ numbers new.nodes
 undo_numbers undo old new is = ap (λ (c : Contents). c.numbers) (sym is.back)
@@ -137,6 +147,23 @@ undo_positions undo old new is = ap (λ (c : Contents). c.positions) (sym is.bac
 
 pub undo_limit : (undo : GraphUndo) (old new : Kept) → IsUndo undo old new → old.limit ≡ new.limit
 undo_limit undo old new is = ap (λ (c : Contents). c.limit) (sym is.back)
+
+-- and can be made there if the room is no less
+pub undo_carries : (undo : GraphUndo) (old mid now : Kept)
+    → IsUndo undo old mid → contents now ≡ contents mid → HaveRoomOf mid.nodes now.nodes → IsUndo undo old now
+undo_carries undo old mid now is e room =
+    let lists : contents_of mid.nodes ≡ contents_of now.nodes = ap (λ (c : Contents). c.lists) (sym e) in
+    let long : length mid.nodes ≡ length now.nodes = same_long mid.nodes now.nodes lists in
+    let us = by_position (length mid.nodes) undo.made.items in
+    let rooms : HaveRoomBack [] old.nodes us now.nodes =
+    room_on [] us us old.nodes mid.nodes now.nodes (undo_numbers undo old mid is) is.room (rooms_same us mid.nodes now.nodes lists room is.can) in
+    record {
+      back = undo_same undo old mid now is e;
+      room = subst (λ n. HaveRoomBack [] old.nodes (by_position n undo.made.items) now.nodes) long rooms;
+      can = subst (λ n. CanAllGoBack (by_position n undo.made.items) now.nodes) long
+          (can_all_same (by_position (length mid.nodes) undo.made.items) mid.nodes now.nodes lists room is.can);
+      apart = subst (λ n. AreApart n undo.made.items) long is.apart;
+    }
 
 -- what goes back reaches what there was
 pub undo_reaches : (undo : GraphUndo) (old new now : Kept) → IsUndo undo old new → contents now ≡ before undo new

@@ -1,7 +1,8 @@
 -- What is said of a list whatever its room, and the way back in more room.
-use Rattle.std.proofs.Common.{◌≡◌, ◌∙◌, ℕ, ◌≤◌, List, refl, ap, sym, subst}
+use Rattle.std.proofs.Common.{◌≡◌, ◌∙◌, ℕ, ◌≤◌, List, refl, ap, sym, subst, arith}
 use Rattle.spec_states.specs.Tree.{Tree}
 use Rattle.gl_source.proofs.Play.{can_play_more}
+use Rattle.gl_kernels.proofs.SortedRooms as sorted
 use Rattle.gl_graph.specs.declared.derived.Derived.{Derived}
 use Rattle.gl_graph.specs.declared.derived.Derived.TheVariants as d
 use Rattle.gl_graph.specs.declared.derived.DerivedUndo.{DerivedUndo}
@@ -11,55 +12,82 @@ use Rattle.gl_graph.specs.declared.keeps.Keeps.TheVariants.{Source, Over}
 use Rattle.gl_graph.specs.declared.keeps.KeepsUndo.{KeepsUndo}
 use Rattle.gl_graph.specs.declared.keeps.KeepsUndo.TheVariants as u
 use Rattle.gl_graph.specs.Derived as derived
-use Rattle.gl_graph.specs.Derived.{of_filter, of_range, of_function, view_of_derived}
+use Rattle.gl_graph.specs.Derived.{of_filter, of_sorted, of_range, of_function, view_of_derived}
 use Rattle.spec_states.specs.State.{over}
 use Rattle.gl_graph.specs.Nodes.{own_of, OnInput, StandsFor}
 use Rattle.gl_graph.specs.Graph.{IsLimited}
-use Rattle.gl_graph.specs.Undos.{Contents, of_source, of_over, contents, room_of, before, CanRetreat}
+use Rattle.gl_graph.specs.Undos.{Contents, of_source, of_over, contents, room_of, room_back, before, CanRetreat}
 
 -- the list over one input of these contents that has so much room
 abbrev derived_with : ℕ → derived.Contents → Derived
 derived_with room (of_filter c) = d.Filter (record { matcher = c.matcher; shown = c.shown; room = room })
+derived_with room (of_sorted c) = d.Sorted (sorted.with_room room c)
 derived_with room (of_range c) = d.Range c
 derived_with room (of_function c) = d.Function (record { func = c.func; values = c.values; room = room })
 
 derived_own : (o : Derived) → derived_with (derived.room_of o) (derived.contents o) ≡ o
 derived_own (d.Filter k) = refl
+derived_own (d.Sorted k) = refl
 derived_own (d.Range k) = refl
 derived_own (d.Function k) = refl
 
 -- what holds whatever the room
 derived_view : (r s : ℕ) (c : derived.Contents) → view_of_derived (derived_with r c) ≡ view_of_derived (derived_with s c)
 derived_view r s (of_filter c) = refl
+derived_view r s (of_sorted c) = refl
 derived_view r s (of_range c) = refl
 derived_view r s (of_function c) = refl
 
 derived_stands : (xs : List Tree) (r s : ℕ) (c : derived.Contents) → derived.StandsFor (derived_with r c) xs → derived.StandsFor (derived_with s c) xs
 derived_stands xs r s (of_filter c) h = h
+derived_stands xs r s (of_sorted c) h = record { places = h.places; marks = h.marks }
 derived_stands xs r s (of_range c) h = h
 derived_stands xs r s (of_function c) h = h
 
+-- an undo makes the same of it; one of another kind makes nothing of it
 derived_before : (undo : DerivedUndo) (r s : ℕ) (c : derived.Contents) → derived.before undo (derived_with r c) ≡ derived.before undo (derived_with s c)
 derived_before (du.Filter undo) r s (of_filter c) = refl
+derived_before (du.Filter undo) r s (of_sorted c) = refl
 derived_before (du.Filter undo) r s (of_range c) = refl
 derived_before (du.Filter undo) r s (of_function c) = refl
+derived_before (du.Sorted undo) r s (of_filter c) = refl
+derived_before (du.Sorted undo) r s (of_sorted c) = ap of_sorted (sorted.before_same undo r s c)
+derived_before (du.Sorted undo) r s (of_range c) = refl
+derived_before (du.Sorted undo) r s (of_function c) = refl
 derived_before (du.Range undo) r s (of_filter c) = refl
+derived_before (du.Range undo) r s (of_sorted c) = refl
 derived_before (du.Range undo) r s (of_range c) = refl
 derived_before (du.Range undo) r s (of_function c) = refl
 derived_before (du.Function undo) r s (of_filter c) = refl
+derived_before (du.Function undo) r s (of_sorted c) = refl
 derived_before (du.Function undo) r s (of_range c) = refl
 derived_before (du.Function undo) r s (of_function c) = refl
 
+-- it can be taken in more room, and then leaves no less
+record IsRoomier (undo : DerivedUndo) (less more : Derived) : Type 0 where
+  pub can : derived.CanRetreat undo more
+  pub room : derived.room_back undo less ≤ derived.room_back undo more
+
 derived_in_more : (undo : DerivedUndo) (r s : ℕ) (c : derived.Contents) → r ≤ s → derived.CanRetreat undo (derived_with r c)
-    → derived.CanRetreat undo (derived_with s c)
-derived_in_more (du.Filter undo) r s (of_filter c) h can = can_play_more _ r s undo.log.items c.shown h can
-derived_in_more (du.Range undo) r s (of_range c) h can = tt
-derived_in_more (du.Function undo) r s (of_function c) h can = can_play_more _ r s undo.log.items c.values h can
+    → IsRoomier undo (derived_with r c) (derived_with s c)
+derived_in_more (du.Filter undo) r s (of_filter c) h can = record { can = can_play_more _ r s undo.log.items c.shown h can; room = h }
+derived_in_more (du.Sorted undo) r s (of_sorted c) h can = record {
+  can = sorted.retreats_in_more undo r s c h can;
+  room = sorted.room_in_more undo r s c h;
+}
+derived_in_more (du.Range undo) r s (of_range c) h can = record { can = tt; room = omega arith }
+derived_in_more (du.Function undo) r s (of_function c) h can = record { can = can_play_more _ r s undo.log.items c.values h can; room = h }
+derived_in_more (du.Filter undo) r s (of_sorted c) h can = absurd can
 derived_in_more (du.Filter undo) r s (of_range c) h can = absurd can
 derived_in_more (du.Filter undo) r s (of_function c) h can = absurd can
+derived_in_more (du.Sorted undo) r s (of_filter c) h can = absurd can
+derived_in_more (du.Sorted undo) r s (of_range c) h can = absurd can
+derived_in_more (du.Sorted undo) r s (of_function c) h can = absurd can
 derived_in_more (du.Range undo) r s (of_filter c) h can = absurd can
+derived_in_more (du.Range undo) r s (of_sorted c) h can = absurd can
 derived_in_more (du.Range undo) r s (of_function c) h can = absurd can
 derived_in_more (du.Function undo) r s (of_filter c) h can = absurd can
+derived_in_more (du.Function undo) r s (of_sorted c) h can = absurd can
 derived_in_more (du.Function undo) r s (of_range c) h can = absurd can
 
 -- what a list keeps of these contents that has so much room
@@ -114,6 +142,7 @@ before_same undo a b e = carried (λ k. before undo a ≡ before undo k) (λ r s
   where
     same_contents : (input r s : ℕ) (c : derived.Contents) → contents (Over input (derived_with r c)) ≡ contents (Over input (derived_with s c))
     same_contents input r s (of_filter c) = refl
+    same_contents input r s (of_sorted c) = refl
     same_contents input r s (of_range c) = refl
     same_contents input r s (of_function c) = refl
 
@@ -123,21 +152,33 @@ before_same undo a b e = carried (λ k. before undo a ≡ before undo k) (λ r s
     any (u.Over undo) r s (of_source values limit) = refl
     any (u.Over undo) r s (of_over input c) = ap (of_over input) (derived_before undo r s c)
 
+-- an undo can be taken of the one list as of the other, and leaves no less room there
+pub record CanAlso (undo : KeepsUndo) (a b : Keeps) : Type 0 where
+  pub can : CanRetreat undo b
+  pub room : room_back undo a ≤ room_back undo b
+
 in_more : (undo : KeepsUndo) (r s : ℕ) (c : Contents) → r ≤ s → CanRetreat undo (with_room r c)
-    → CanRetreat undo (with_room s c)
-in_more (u.Source undo) r s (of_source values limit) h can = record { within = can.within; can = can_play_more _ r s undo.log.items values h can.can }
-in_more (u.Over undo) r s (of_over input c) h can = derived_in_more undo r s c h can
+    → CanAlso undo (with_room r c) (with_room s c)
+in_more (u.Source undo) r s (of_source values limit) h can = record {
+  can = record { within = can.within; can = can_play_more _ r s undo.log.items values h can.can };
+  room = h;
+}
+in_more (u.Over undo) r s (of_over input c) h can =
+    let more = derived_in_more undo r s c h can in
+    record { can = more.can; room = more.room }
 in_more (u.Source undo) r s (of_over input c) h can = absurd can
 in_more (u.Over undo) r s (of_source values limit) h can = absurd can
 
 -- what can go back can do so in more room
 pub retreat_same : (undo : KeepsUndo) (a b : Keeps) → contents a ≡ contents b → room_of a ≤ room_of b
-    → CanRetreat undo a → CanRetreat undo b
+    → CanRetreat undo a → CanAlso undo a b
 retreat_same undo a b e more can =
     let here : CanRetreat undo (with_room (room_of a) (contents a)) = subst (λ k. CanRetreat undo k) (sym (its_own a)) can in
-    let larger : CanRetreat undo (with_room (room_of b) (contents a)) = in_more undo (room_of a) (room_of b) (contents a) more here in
-    let there : CanRetreat undo (with_room (room_of b) (contents b)) = subst (λ c. CanRetreat undo (with_room (room_of b) c)) e larger in
-    subst (λ k. CanRetreat undo k) (its_own b) there
+    let larger : CanAlso undo (with_room (room_of a) (contents a)) (with_room (room_of b) (contents a)) =
+    in_more undo (room_of a) (room_of b) (contents a) more here in
+    let own : CanAlso undo a (with_room (room_of b) (contents a)) = subst (λ k. CanAlso undo k (with_room (room_of b) (contents a))) (its_own a) larger in
+    let there : CanAlso undo a (with_room (room_of b) (contents b)) = subst (λ c. CanAlso undo a (with_room (room_of b) c)) e own in
+    subst (λ k. CanAlso undo a k) (its_own b) there
 
 -- what is said of each list is said of the input
 pub on_input_more : {P Q : ℕ → Type 0} → ((i : ℕ) → P i → Q i) → (k : Keeps) → OnInput P k → OnInput Q k

@@ -9,10 +9,11 @@ use Rattle.gl_graph.specs.declared.node.Node.{Node}
 use Rattle.gl_graph.specs.declared.keeps.KeepsUndo.{KeepsUndo}
 use Rattle.gl_graph.specs.Nodes.{own_of, numbers, OnInput, IsPlaced, IsInTurn, AreInTurn}
 use Rattle.gl_graph.specs.Undos.{contents, room_of}
-use Rattle.gl_graph.specs.Waves.{before_one, before_all, CanGoBack, CanAllGoBack, HaveRoomOf}
+use Rattle.gl_graph.specs.Waves.{before_one, before_all, room_one, undo_at, CanGoBack, CanAllGoBack, HaveRoomBack}
 use Rattle.gl_graph.specs.Spread.{IsSetAt}
 use Rattle.gl_graph.proofs.Plain.{each_input, on_inputs}
 use Rattle.gl_graph.proofs.Shown.{numbers_prefix}
+use Rattle.gl_graph.proofs.Taken.{undo_here, undo_there, undo_none}
 
 -- a list at a place of which another item was put
 pub set_here : {X : Type 0} (xs : List X) (q : ℕ) (was now : X) → slice_get xs q ≡ Some was → slice_get (slice_set xs q now) q ≡ Some now
@@ -114,17 +115,25 @@ can_set [] (n ∷ nodes) (suc q) undo now h all = tt
 can_set (v ∷ undos) (n ∷ nodes) zero undo now h all = (h, all.1)
 can_set (v ∷ undos) (n ∷ nodes) (suc q) undo now h all = (all.0, can_set undos nodes q undo now h all.1)
 
-pub room_set : (old nodes : List Node) (q : ℕ) (was now : Node) → slice_get nodes q ≡ Some was → room_of was.keeps ≤ room_of now.keeps → HaveRoomOf old nodes → HaveRoomOf old (slice_set nodes q now)
-room_set old nodes q was now is more room p a b at_old at_new = by_position (eqb p q) refl
+-- no list has less room than its undo leaves, once one keeps something else and has its undo
+pub room_set : (old nodes : List Node) (undos : List (Option KeepsUndo)) (q : ℕ) (was now : Node) (undo : Option KeepsUndo)
+    → slice_get undos q ≡ Some None → slice_get nodes q ≡ Some was → room_of was.keeps ≤ room_one undo now.keeps → HaveRoomBack [] old undos nodes
+    → HaveRoomBack [] old (slice_set undos q undo) (slice_set nodes q now)
+room_set old nodes undos q was now undo waits is more room p a b at_old at_new = by_position (eqb p q) refl
   where
-    here : p ≡ q → room_of a.keeps ≤ room_of b.keeps
-    here e =
+    this : p ≡ q → room_of a.keeps ≤ room_one (undo_at (slice_set undos q undo) p) b.keeps
+    this e =
         let both : Some now ≡ Some b = sym (set_here nodes q was now is) ∙ (ap (slice_get (slice_set nodes q now)) (sym e) ∙ at_new) in
         let one : now ≡ b = cc in
-        let before : room_of a.keeps ≤ room_of was.keeps = room p a was at_old (ap (slice_get nodes) e ∙ is) in
-        let after : room_of a.keeps ≤ room_of now.keeps = omega (arith, before, more) in
-        subst (λ (m : Node). room_of a.keeps ≤ room_of m.keeps) one after
+        let none : undo_at undos p ≡ None = ap (undo_at undos) e ∙ undo_none undos q waits in
+        let put : undo_at (slice_set undos q undo) p ≡ undo = ap (undo_at (slice_set undos q undo)) e ∙ undo_here undos q undo waits in
+        let before : room_of a.keeps ≤ room_of was.keeps = subst (λ u. room_of a.keeps ≤ room_one u was.keeps) none (room p a was at_old (ap (slice_get nodes) e ∙ is)) in
+        let after : room_of a.keeps ≤ room_one undo now.keeps = omega (arith, before, more) in
+        subst (λ (m : Node). room_of a.keeps ≤ room_one (undo_at (slice_set undos q undo) p) m.keeps) one
+        (subst (λ u. room_of a.keeps ≤ room_one u now.keeps) (sym put) after)
 
-    by_position : (t : Bool) → eqb p q ≡ t → room_of a.keeps ≤ room_of b.keeps
-    by_position true e = here (eqb-true p q e)
-    by_position false e = room p a b at_old (sym (set_there nodes q p now (eqb-false p q e)) ∙ at_new)
+    by_position : (t : Bool) → eqb p q ≡ t → room_of a.keeps ≤ room_one (undo_at (slice_set undos q undo) p) b.keeps
+    by_position true e = this (eqb-true p q e)
+    by_position false e =
+        let h = eqb-false p q e in
+        subst (λ u. room_of a.keeps ≤ room_one u b.keeps) (sym (undo_there undos q p undo h)) (room p a b at_old (sym (set_there nodes q p now h) ∙ at_new))

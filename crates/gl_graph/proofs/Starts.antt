@@ -44,6 +44,7 @@ use Rattle.spec_states.proofs.Longer.{few_shown}
 built_of : (P : ℕ → Type 0) (kind : ListKind) → IsKindBuilt kind → ((i : ℕ) → Contains (inputs (seen_through kind)) i → P i) → IsBuilt P kind
 built_of P (kinds.Source rows) h f = tt
 built_of P (kinds.Filter input matcher) h f = f input (Contains-here input [] input refl)
+built_of P (kinds.Sorted input order) h f = f input (Contains-here input [] input refl)
 built_of P (kinds.Range input bounds) h f = f input (Contains-here input [] input refl)
 built_of P (kinds.Function input func) h f = f input (Contains-here input [] input refl)
 built_of P other h f = absurd h
@@ -52,6 +53,7 @@ built_of P other h f = absurd h
 seen_inward : (kind : ListKind) → IsKindBuilt kind → Inward (seen_through kind)
 seen_inward (kinds.Source rows) h = tt
 seen_inward (kinds.Filter input matcher) h = tt
+seen_inward (kinds.Sorted input order) h = tt
 seen_inward (kinds.Range input bounds) h = tt
 seen_inward (kinds.Function input func) h = tt
 seen_inward other h = absurd h
@@ -59,6 +61,7 @@ seen_inward other h = absurd h
 seen_opening : (shows : ℕ → List Tree) (kind : ListKind) → IsKindBuilt kind → opening_of shows kind ≡ seen_through kind
 seen_opening shows (kinds.Source rows) h = refl
 seen_opening shows (kinds.Filter input matcher) h = refl
+seen_opening shows (kinds.Sorted input order) h = refl
 seen_opening shows (kinds.Range input bounds) h = refl
 seen_opening shows (kinds.Function input func) h = refl
 seen_opening shows other h = absurd h

@@ -15,7 +15,7 @@ use Rattle.spec_states.specs.State.{own_at}
 use Rattle.gl_graph.specs.Commands.{Suits}
 use Rattle.gl_graph.specs.Graph.{IsGraph}
 use Rattle.gl_graph.specs.Undos.{contents, room_of}
-use Rattle.gl_graph.specs.Waves.{Made, by_position, AreApart, IsRefused, before_one, CanGoBack}
+use Rattle.gl_graph.specs.Waves.{Made, by_position, AreApart, IsRefused, before_one, room_one, CanGoBack}
 use Rattle.gl_graph.specs.Spread.{HasBegun, IsTriedAt, IsSetAt, CanTurnAt, IsPut, IsOver, IsBegun, IsSpread, LeadBack, HaveBack}
 use Rattle.gl_graph.proofs.Plain.{long_state, on_inputs}
 use Rattle.gl_graph.proofs.WholeWaves.{starts_at}
@@ -29,13 +29,13 @@ use Rattle.gl_graph.proofs.Ends.{shown_few, nodes_few, start_low, spread_begins}
 
 -- what leads back still does, once the node at a place keeps something else and has its undo
 back_more : (old nodes others : List Node) (undos : List (Option KeepsUndo)) (q : ℕ) (was now : Node) (undo : Option KeepsUndo) → LeadBack old nodes undos → IsSetAt q nodes others was now
-    → slice_get undos q ≡ Some None → before_one undo now.keeps ≡ contents was.keeps → CanGoBack undo now.keeps → room_of was.keeps ≤ room_of now.keeps
+    → slice_get undos q ≡ Some None → before_one undo now.keeps ≡ contents was.keeps → CanGoBack undo now.keeps → room_of was.keeps ≤ room_one undo now.keeps
     → LeadBack old others (slice_set undos q undo)
 back_more old nodes others undos q was now undo lead set waits back can room = subst (λ ns. LeadBack old ns (slice_set undos q undo)) (sym set.is) (record {
   numbers_are = set_numbers nodes q was now set.there set.list ∙ lead.numbers_are;
   back = back_set undos nodes q undo was now waits set.there back ∙ lead.back;
   can = can_set undos nodes q undo now can lead.can;
-  room = room_set old nodes q was now set.there room lead.room;
+  room = room_set old nodes undos q was now undo waits set.there room lead.room;
 })
 
 -- the undos that were made, with one more
@@ -48,7 +48,7 @@ made_more nodes others q was now made undo set =
     ap (λ n. by_position n (made ++ (q, undo) ∷ [])) (long_set nodes others q was now set) ∙ placed_last (replicate (length nodes) None) made (q, undo)
 
 have_more : (old nodes others : List Node) (made : Made) (q : ℕ) (was now : Node) (undo : KeepsUndo) → HaveBack old nodes made → IsSetAt q nodes others was now
-    → slice_get (by_position (length nodes) made) q ≡ Some None → before_one (Some undo) now.keeps ≡ contents was.keeps → CanGoBack (Some undo) now.keeps → room_of was.keeps ≤ room_of now.keeps
+    → slice_get (by_position (length nodes) made) q ≡ Some None → before_one (Some undo) now.keeps ≡ contents was.keeps → CanGoBack (Some undo) now.keeps → room_of was.keeps ≤ room_one (Some undo) now.keeps
     → HaveBack old others (made ++ (q, undo) ∷ [])
 have_more old nodes others made q was now undo have set waits back can room = record {
   lead = subst (LeadBack old others) (sym (made_more nodes others q was now made undo set))
@@ -107,7 +107,8 @@ none_more limit old positions c start q nodes others told made within tried h =
       begun = h.begun;
       inverted = inverse_more limit old positions c start q nodes others was now h.begun h.inverted next tried.set still.on few;
       told_to = told_still limit old positions c start q nodes was told h.begun h.told_to next still.told still.same;
-      back = have_same old nodes others made q was now h.back tried.set waits (ap contents tried.tried.ok.1.same) tried.tried.room;
+      back = have_same old nodes others made q was now h.back tried.set waits (ap contents tried.tried.ok.1.same)
+          (subst (λ k. room_of was.keeps ≤ room_of k) (sym tried.tried.ok.1.same) (omega arith));
       waiting = waits_same nodes others made q was now tried.set h.waiting;
     }
 
@@ -126,7 +127,7 @@ some_more limit old positions c start q nodes others told after made done within
       begun = h.begun;
       inverted = inverse_more limit old positions c start q nodes others was now h.begun h.inverted next tried.set on.on few;
       told_to = told_put limit old positions c start q nodes was now told after done h.begun h.told_to next on put;
-      back = have_more old nodes others made q was now done.1 h.back tried.set waits on.undo.back on.undo.can tried.tried.room;
+      back = have_more old nodes others made q was now done.1 h.back tried.set waits on.undo.back on.undo.can on.undo.room;
       waiting = waits_more nodes others made q was now done.1 tried.set h.waiting;
     }
 
@@ -140,7 +141,7 @@ over_back limit old positions c start q nodes others told made done within tried
     let next = tried_next limit old positions c start q nodes told made was h tried.set.there in
     let waits = waits_here limit old positions c start q nodes told made within h in
     let on = on_by limit old positions c start q nodes was now told done h.begun h.inverted h.told_to next tried.tried.ok in
-    have_more old nodes others made q was now done.1 h.back tried.set waits on.undo.back on.undo.can tried.tried.room
+    have_more old nodes others made q was now done.1 h.back tried.set waits on.undo.back on.undo.can on.undo.room
 
 pub over_reason : (limit : ℕ) (old : List Node) (positions : List ℕ) (c : Command) (start : Option ℕ) (q : ℕ) (nodes others : List Node) (told : List (Option DeltaModel)) (made : Made)
     (done : DeltaModel × KeepsUndo) (why : Refused) → (tried : IsTriedAt start positions c told q nodes others (Ok (Some done)))
@@ -262,7 +263,7 @@ skip_one limit old positions c start q nodes told made within early h =
         ok = (other was next.turn.placed, record { same = refl; untold = on_inputs (λ i. slice_index_or told i None ≡ None) was.keeps (λ i d. h.told_to.quiet (λ b. early (begun_later positions start q b)) i) });
         err = tt;
         stopped = λ most limited. tt;
-        room = omega arith;
+        room = tt;
       };
     }) h
   where

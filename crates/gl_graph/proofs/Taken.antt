@@ -1,13 +1,14 @@
 -- Undos taken back one after another, the last one first.
-use Rattle.std.proofs.Common.{◌≡◌, ◌∙◌, ℕ, zero, suc, ◌<◌, ◌≤◌, List, [], ◌∷◌, ◌++◌, length, fold, replicate, refl, ap, sym, subst, arith}
+use Rattle.std.proofs.Common.{◌≡◌, ◌≢◌, ◌∙◌, ℕ, zero, suc, ◌<◌, ◌≤◌, Bool, true, false, List, [], ◌∷◌, ◌++◌, length, fold, replicate, refl, ap, sym, subst, arith, eqb}
 use Rattle.std.specs.Prelude.{Option, Some, None, slice_get, slice_set, slice_index_or}
+use Rattle.std.proofs.lemmas.Bool.{eqb-true, eqb-false}
 use Rattle.std.proofs.lemmas.List.{length-set}
 use Rattle.std.proofs.lemmas.Option.{slice_get-get_or, slice_get_within}
 use Rattle.gl_graph.specs.declared.node.Node.{Node}
 use Rattle.gl_graph.specs.declared.keeps.KeepsUndo.{KeepsUndo}
 use Rattle.gl_graph.specs.Nodes.{numbers}
 use Rattle.gl_graph.specs.Undos as keeps
-use Rattle.gl_graph.specs.Waves.{Made, put_undo, by_position, AreApartFrom, AreApart, contents_of, before_one, before_all, CanGoBack, CanAllGoBack, HaveRoomOf}
+use Rattle.gl_graph.specs.Waves.{Made, put_undo, by_position, undo_at, AreApartFrom, AreApart, contents_of, before_one, before_all, room_one, CanGoBack, CanAllGoBack, HaveRoomBack}
 use Rattle.gl_graph.specs.Backs.{CanGoBackAt, IsOneBack, IsBackAt}
 
 -- the last undo of those that were made
@@ -127,24 +128,66 @@ numbers_back undo (suc position) (m ∷ old) (n ∷ new) back =
     ap (λ (x : Node). x.list ∷ numbers new) (first_same undo position m n old new back)
     ∙ ap (λ ns. m.list ∷ ns) (numbers_back undo position old new (rest_back undo position m n old new back))
 
-same_room : (x y : Node) (p : ℕ) (old new : List Node) → new ≡ old → slice_get old p ≡ Some x
-    → slice_get new p ≡ Some y → keeps.room_of x.keeps ≤ keeps.room_of y.keeps
-same_room x y p old new e is_x is_y =
-    let both : Some x ≡ Some y = sym is_x ∙ (ap (λ ns. slice_get ns p) (sym e) ∙ is_y) in
-    let same : x ≡ y = cc in
-    subst (λ (n : Node). keeps.room_of x.keeps ≤ keeps.room_of n.keeps) same (omega arith)
+-- the undo at a position where one was put, and at another one
+pub undo_here : (undos : List (Option KeepsUndo)) (q : ℕ) (undo : Option KeepsUndo) → slice_get undos q ≡ Some None → undo_at (slice_set undos q undo) q ≡ undo
+undo_here [] q undo e = absurd cc
+undo_here (u ∷ undos) zero undo e = refl
+undo_here (u ∷ undos) (suc q) undo e = undo_here undos q undo e
 
--- no room is lost
-pub room_back : (undo : Option KeepsUndo) (position : ℕ) (old new : List Node) → IsBackAt undo position old new
-    → HaveRoomOf old new
-room_back undo zero old new back zero x y is_x is_y = (back.this x y is_x is_y).room
-room_back undo zero (m ∷ old) (n ∷ new) back (suc p) x y is_x is_y = same_room x y p old new (others_same undo m n old new back) is_x is_y
-room_back undo (suc position) (m ∷ old) (n ∷ new) back zero x y is_x is_y = same_room x y 0 (m ∷ []) (n ∷ []) (ap (λ z. z ∷ []) (first_same undo position m n old new back)) is_x is_y
-room_back undo (suc position) (m ∷ old) (n ∷ new) back (suc p) x y is_x is_y = room_back undo position old new (rest_back undo position m n old new back) p x y is_x is_y
-room_back undo zero [] new back (suc p) x y is_x is_y = absurd cc
-room_back undo zero (m ∷ old) [] back (suc p) x y is_x is_y = absurd cc
-room_back undo (suc position) [] new back p x y is_x is_y = absurd cc
-room_back undo (suc position) (m ∷ old) [] back p x y is_x is_y = absurd cc
+pub undo_there : (undos : List (Option KeepsUndo)) (q p : ℕ) (undo : Option KeepsUndo) → p ≢ q → undo_at (slice_set undos q undo) p ≡ undo_at undos p
+undo_there [] q p undo h = refl
+undo_there (u ∷ undos) zero zero undo h = absurd (h refl)
+undo_there (u ∷ undos) zero (suc p) undo h = refl
+undo_there (u ∷ undos) (suc q) zero undo h = refl
+undo_there (u ∷ undos) (suc q) (suc p) undo h = undo_there undos q p undo (λ e. h (ap suc e))
+
+-- and where none is
+pub undo_none : (undos : List (Option KeepsUndo)) (q : ℕ) → slice_get undos q ≡ Some None → undo_at undos q ≡ None
+undo_none [] q e = refl
+undo_none (u ∷ undos) zero e = cc
+undo_none (u ∷ undos) (suc q) e = undo_none undos q e
+
+-- no list has less room than its undo leaves
+pub room_back : (undos : List (Option KeepsUndo)) (undo : KeepsUndo) (q : ℕ) (old new : List Node) → slice_get undos q ≡ Some None
+    → IsBackAt (Some undo) q old new → HaveRoomBack (slice_set undos q (Some undo)) old undos new
+room_back undos undo q old new waits back p x y is_x is_y = by_position (eqb p q) refl
+  where
+    this : p ≡ q → room_one (undo_at (slice_set undos q (Some undo)) p) x.keeps ≤ room_one (undo_at undos p) y.keeps
+    this e =
+        let left : undo_at (slice_set undos q (Some undo)) p ≡ Some undo = ap (undo_at (slice_set undos q (Some undo))) e ∙ undo_here undos q (Some undo) waits in
+        let none : undo_at undos p ≡ None = ap (undo_at undos) e ∙ undo_none undos q waits in
+        let at_x : slice_get old q ≡ Some x = ap (slice_get old) (sym e) ∙ is_x in
+        let at_y : slice_get new q ≡ Some y = ap (slice_get new) (sym e) ∙ is_y in
+        subst (λ u. room_one u x.keeps ≤ room_one (undo_at undos p) y.keeps) (sym left)
+        (subst (λ u. room_one (Some undo) x.keeps ≤ room_one u y.keeps) (sym none) (back.this x y at_x at_y).room)
+
+    other : p ≢ q → room_one (undo_at (slice_set undos q (Some undo)) p) x.keeps ≤ room_one (undo_at undos p) y.keeps
+    other h =
+        let both : Some x ≡ Some y = sym is_x ∙ (sym (back.others p h) ∙ is_y) in
+        let same : x ≡ y = cc in
+        subst (λ u. room_one u x.keeps ≤ room_one (undo_at undos p) y.keeps) (sym (undo_there undos q p (Some undo) h))
+        (subst (λ (n : Node). room_one (undo_at undos p) x.keeps ≤ room_one (undo_at undos p) n.keeps) same (omega arith))
+
+    by_position : (t : Bool) → eqb p q ≡ t → room_one (undo_at (slice_set undos q (Some undo)) p) x.keeps ≤ room_one (undo_at undos p) y.keeps
+    by_position true e = this (eqb-true p q e)
+    by_position false e = other (eqb-false p q e)
+
+-- the last undo was put where there was none
+pub last_room : (n : ℕ) (made : Made) (one : ℕ × KeepsUndo) (old new : List Node) (back : List keeps.Contents) → AreLeft n (made ++ one ∷ []) old back
+    → IsBackAt (Some one.1) one.0 old new → HaveRoomBack (by_position n (made ++ one ∷ [])) old (by_position n made) new
+last_room n made one old new back h gone =
+    let apart = apart_last (replicate n None) made one h.apart in
+    subst (λ us. HaveRoomBack us old (by_position n made) new) (sym (placed_last (replicate n None) made one))
+    (room_back (by_position n made) one.1 one.0 old new apart.1 gone)
+
+pub no_undo : (n p : ℕ) → undo_at (replicate n None) p ≡ None
+no_undo zero p = refl
+no_undo (suc n) zero = refl
+no_undo (suc n) (suc p) = no_undo n p
+
+pub none_room : (n : ℕ) (undos : List (Option KeepsUndo)) (a b : List Node) → HaveRoomBack undos a (replicate n None) b → HaveRoomBack undos a [] b
+none_room n undos a b h p x y is_x is_y =
+    subst (λ u. room_one (undo_at undos p) x.keeps ≤ room_one u y.keeps) (no_undo n p) (h p x y is_x is_y)
 
 -- without undos nothing changes
 pub none_back : (n : ℕ) (nodes : List Node) → before_all (replicate n None) nodes ≡ contents_of nodes
@@ -179,7 +222,7 @@ can_here undo known position nodes n e value within can =
 pub back_here : (undo : Option KeepsUndo) (known : KeepsUndo) (position : ℕ) (nodes : List Node) (n m : Node)
     → undo ≡ Some known → n ≡ slice_index_or nodes position n → position < length nodes
     → m.list ≡ n.list → keeps.contents m.keeps ≡ keeps.before known n.keeps
-    → keeps.room_of n.keeps ≤ keeps.room_of m.keeps → IsBackAt undo position nodes (slice_set nodes position m)
+    → keeps.room_back known n.keeps ≤ keeps.room_of m.keeps → IsBackAt undo position nodes (slice_set nodes position m)
 back_here undo known position nodes n m e value within list_is keeps_is room = record {
   long = length-set nodes position m;
   others = λ p other. get_other nodes position p m other;
@@ -189,7 +232,7 @@ back_here undo known position nodes n m e value within list_is keeps_is room = r
       let new : Some m ≡ Some b = sym (get_set nodes position m within) ∙ is_b in
       let old_is : n ≡ a = cc in
       let new_is : m ≡ b = cc in
-      let here : IsOneBack undo n m = record { list_is = list_is; keeps_is = keeps_is ∙ ap (λ o. before_one o n.keeps) (sym e); room = room } in
+      let here : IsOneBack undo n m = record { list_is = list_is; keeps_is = keeps_is ∙ ap (λ o. before_one o n.keeps) (sym e); room = subst (λ o. room_one o n.keeps ≤ keeps.room_of m.keeps) (sym e) room } in
       subst (λ x. IsOneBack undo a x) new_is (subst (λ x. IsOneBack undo x m) old_is here));
 }
 

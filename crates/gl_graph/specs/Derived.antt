@@ -1,51 +1,59 @@
 -- What a list over one input keeps in a graph: the one file that goes by its kind.
-use Rattle.std.specs.Prelude.{◌≡◌, ◌≤◌, ◌+◌, ⊤, ℕ, List}
+use Rattle.std.specs.Prelude.{◌≡◌, ◌≤◌, ◌<◌, ◌+◌, ◌*◌, ◌^◌, ⊤, ℕ, List}
 use Rattle.spec_states.specs.Tree.{Tree}
 use Rattle.spec_states.specs.Delta.{Delta}
 use Rattle.spec_states.specs.Kind.{kind}
-use Rattle.spec_states.specs.View.{View, filter, range, function, Parameter, matcher}
+use Rattle.spec_states.specs.View.{View, filter, sorted, range, function, Parameter, matcher, order}
 use Rattle.gl_kernels.specs.Stands as filter_stands
 use Rattle.gl_kernels.specs.Told.{asked, change_cost}
+use Rattle.gl_kernels.specs.SortedStands as sorted_stands
+use Rattle.gl_kernels.specs.SortedChanges.{fresh_len}
 use Rattle.gl_kernels.specs.Kept as range_kept
 use Rattle.gl_kernels.specs.RangeStands as range_stands
 use Rattle.gl_kernels.specs.FunctionStands as function_stands
 use Rattle.gl_graph.specs.declared.derived.Derived.{Derived}
-use Rattle.gl_graph.specs.declared.derived.Derived.TheVariants.{Filter, Range, Function}
+use Rattle.gl_graph.specs.declared.derived.Derived.TheVariants.{Filter, Sorted, Range, Function}
 use Rattle.gl_graph.specs.declared.derived.DerivedUndo.{DerivedUndo}
 use Rattle.gl_graph.specs.declared.derived.DerivedUndo.TheVariants as u
 
 -- its kind and its present parameter
 abbrev pub view_of_derived : Derived → View
 view_of_derived (Filter k) = filter k.matcher
+view_of_derived (Sorted k) = sorted k.order
 view_of_derived (Range k) = range k.bounds
 view_of_derived (Function k) = function k.func
 
 -- it stands for these elements of its input
 abbrev pub StandsFor : Derived → List Tree → Type 0
 StandsFor (Filter k) xs = filter_stands.StandsFor k xs
+StandsFor (Sorted k) xs = sorted_stands.StandsFor k xs
 StandsFor (Range k) xs = range_stands.StandsFor k xs
 StandsFor (Function k) xs = function_stands.StandsFor k xs
 
 -- what it is, whatever its room
 pub data Contents : Type 0 where
   of_filter : filter_stands.Contents → Contents
+  of_sorted : sorted_stands.Contents → Contents
   of_range : range_kept.Kept → Contents
   of_function : function_stands.Contents → Contents
 
 abbrev pub contents : Derived → Contents
 contents (Filter k) = of_filter (filter_stands.contents k)
+contents (Sorted k) = of_sorted (sorted_stands.contents k)
 contents (Range k) = of_range k
 contents (Function k) = of_function (function_stands.contents k)
 
 -- how much it has room for
 abbrev pub room_of : Derived → ℕ
 room_of (Filter k) = k.room
+room_of (Sorted k) = k.tree.room
 room_of (Range k) = 0
 room_of (Function k) = k.room
 
 -- what an undo makes of it; one of another kind makes nothing of it
 abbrev pub before : DerivedUndo → Derived → Contents
 before (u.Filter undo) (Filter k) = of_filter (filter_stands.before undo k)
+before (u.Sorted undo) (Sorted k) = of_sorted (sorted_stands.contents (sorted_stands.before undo k))
 before (u.Range undo) (Range k) = of_range (range_stands.before undo)
 before (u.Function undo) (Function k) = of_function (function_stands.before undo k)
 before undo derived = contents derived
@@ -53,22 +61,37 @@ before undo derived = contents derived
 -- the undo is of its kind, and it has what the way back needs
 abbrev pub CanRetreat : DerivedUndo → Derived → Type 0
 CanRetreat (u.Filter undo) (Filter k) = filter_stands.CanRetreat undo k
+CanRetreat (u.Sorted undo) (Sorted k) = sorted_stands.CanRetreat undo k
 CanRetreat (u.Range undo) (Range k) = ⊤
 CanRetreat (u.Function undo) (Function k) = function_stands.CanRetreat undo k
 CanRetreat undo derived = ⊥
 
--- the undo is of its last change: it leads back to what it was, and can be made
+-- how much it has room for once an undo was taken; a sorted list of another order has a room of its own
+abbrev pub room_back : DerivedUndo → Derived → ℕ
+room_back (u.Sorted undo) (Sorted k) = (sorted_stands.before undo k).tree.room
+room_back undo derived = room_of derived
+
+-- the undo is of its last change: it leads back to what it was, in no less room, and can be made
 pub record IsUndo (undo : DerivedUndo) (old new : Derived) : Type 0 where
   pub back : before undo new ≡ contents old
+  pub room : room_of old ≤ room_back undo new
   pub can : CanRetreat undo new
 
--- how often a matcher was asked while the list followed a delta, by the counts before and after
-abbrev pub AsksOf : Derived → Delta → ℕ → ℕ → Type 0
-AsksOf (Filter k) d old new = new ≤ old + asked d
-AsksOf (Range k) d old new = new ≡ old
-AsksOf (Function k) d old new = new ≡ old
+-- at most four times the binary digits of a length, and four times more, for each of so many elements
+abbrev pub IsSearched : ℕ → ℕ → ℕ → ℕ → Type 0
+IsSearched len fresh old new =
+    (digits : ℕ) → len < 2 ^ digits → new ≤ old + fresh * (4 * (digits + 1))
 
--- and while it took another parameter
-abbrev pub AsksFor : Derived → Parameter → ℕ → ℕ → Type 0
-AsksFor (Filter k) (matcher m) old new = new ≤ old + change_cost (kind k.matcher m) k.shown
-AsksFor derived given old new = new ≡ old
+-- how often a matcher was asked and keys were compared while the list followed a delta to an input of so many elements,
+-- by the counts before and after
+abbrev pub AsksOf : Derived → Delta → ℕ → ℕ → ℕ → Type 0
+AsksOf (Filter k) d len old new = new ≤ old + asked d
+AsksOf (Sorted k) d len old new = IsSearched len (fresh_len d) old new
+AsksOf (Range k) d len old new = new ≡ old
+AsksOf (Function k) d len old new = new ≡ old
+
+-- and while it took another parameter, over so many elements
+abbrev pub AsksFor : Derived → Parameter → ℕ → ℕ → ℕ → Type 0
+AsksFor (Filter k) (matcher m) len old new = new ≤ old + change_cost (kind k.matcher m) k.shown
+AsksFor (Sorted k) (order keys) len old new = IsSearched len len old new
+AsksFor derived given len old new = new ≡ old

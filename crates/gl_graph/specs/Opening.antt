@@ -10,6 +10,7 @@ use Rattle.gl_source.specs.declared.fault.OpenFault.TheVariants.{TooLong, Memory
 abbrev pub IsBuilt : (ℕ → Type 0) → ListKind → Type 0
 IsBuilt P (kinds.Source rows) = ⊤
 IsBuilt P (kinds.Filter input matcher) = P input
+IsBuilt P (kinds.Sorted input order) = P input
 IsBuilt P (kinds.Range input bounds) = P input
 IsBuilt P (kinds.Function input func) = P input
 IsBuilt P other = ⊥

@@ -1,5 +1,5 @@
 -- How a command spreads through the nodes of a graph, from the list where its wave begins on, one place after another.
-use Rattle.std.specs.Prelude.{◌≡◌, ◌≢◌, ◌<◌, ◌≤◌, ◌⊎◌, ⊤, ℕ, List, length, take, slice_get, slice_index, slice_index_or, slice_set, Option, Some, None, Result, IfOk, IfErr, OnErr}
+use Rattle.std.specs.Prelude.{◌≡◌, ◌≢◌, ◌<◌, ◌≤◌, ◌⊎◌, ⊤, ℕ, [], List, length, take, slice_get, slice_index, slice_index_or, slice_set, Option, Some, None, Result, IfOk, IfErr, OnErr}
 use Rattle.std.specs.List.{Contains}
 use Rattle.spec_states.specs.Tree.{Tree}
 use Rattle.spec_states.specs.Piece.{old_len}
@@ -24,7 +24,7 @@ use Rattle.gl_graph.specs.Nodes.{own_of, numbers, shown_by, state_of, OnInput, S
 use Rattle.gl_graph.specs.Commands.{Suits}
 use Rattle.gl_graph.specs.Graph.{IsLimited, IsGraph}
 use Rattle.gl_graph.specs.Undos.{contents, room_of, limit_of, IsUndo}
-use Rattle.gl_graph.specs.Waves.{IsTold, Made, contents_of, before_all, by_position, AreApart, CanAllGoBack, HaveRoomOf}
+use Rattle.gl_graph.specs.Waves.{IsTold, Made, contents_of, before_all, by_position, AreApart, CanAllGoBack, HaveRoomBack}
 
 -- ---- what lists are told of those before them
 
@@ -116,7 +116,7 @@ pub record IsTried (start : Option ℕ) (shows : ℕ → List Tree) (c : Command
   pub err : OnErr result (contents new ≡ contents old)
   pub stopped : (limit : ℕ) → IsLimited limit old
       → IfErr result (IsStopped limit start shows c deltas list (own_of old))
-  pub room : room_of old ≤ room_of new
+  pub room : OnErr result (room_of old ≤ room_of new)
 
 -- the list can be turned by a command whose wave begins at one, where this is told of those before it
 pub record CanTurn (start : Option ℕ) (shows : ℕ → List Tree) (c : Command)
@@ -204,7 +204,7 @@ pub record LeadBack (old nodes : List Node) (undos : List (Option KeepsUndo)) : 
   pub numbers_are : numbers nodes ≡ numbers old
   pub back : before_all undos nodes ≡ contents_of old
   pub can : CanAllGoBack undos nodes
-  pub room : HaveRoomOf old nodes
+  pub room : HaveRoomBack [] old undos nodes
 
 -- the same of undos in the order in which they were made
 pub record HaveBack (old nodes : List Node) (made : Made) : Type 0 where

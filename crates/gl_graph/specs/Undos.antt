@@ -1,5 +1,5 @@
 -- What the undos of lists give back.
-use Rattle.std.specs.Prelude.{◌≡◌, ℕ, List, Option, Some, None}
+use Rattle.std.specs.Prelude.{◌≡◌, ◌≤◌, ℕ, List, Option, Some, None}
 use Rattle.spec_states.specs.Tree.{Tree}
 use Rattle.gl_source.specs.Stands as source
 use Rattle.gl_graph.specs.declared.keeps.Keeps.{Keeps}
@@ -39,7 +39,13 @@ CanRetreat (u.Source undo) (Source k) = source.CanRetreat undo k
 CanRetreat (u.Over undo) (Over input d) = derived.CanRetreat undo d
 CanRetreat undo keeps = ⊥
 
--- the undo is of the list's last change: it leads back to what the list was, and can be made
+-- how much a list has room for once an undo was taken
+abbrev pub room_back : KeepsUndo → Keeps → ℕ
+room_back (u.Over undo) (Over input d) = derived.room_back undo d
+room_back undo keeps = room_of keeps
+
+-- the undo is of the list's last change: it leads back to what the list was, in no less room, and can be made
 pub record IsUndo (undo : KeepsUndo) (old new : Keeps) : Type 0 where
   pub back : before undo new ≡ contents old
+  pub room : room_of old ≤ room_back undo new
   pub can : CanRetreat undo new

@@ -40,16 +40,31 @@ IsRefused limit s c Memory = ⊤
 abbrev pub contents_of : List Node → List keeps.Contents
 contents_of nodes = map (λ (n : Node). keeps.contents n.keeps) nodes
 
--- no list has lost room
-abbrev pub HaveRoomOf : List Node → List Node → Type 0
-HaveRoomOf old new =
-    (position : ℕ) (a b : Node) → slice_get old position ≡ Some a → slice_get new position ≡ Some b
-    → keeps.room_of a.keeps ≤ keeps.room_of b.keeps
-
 -- what an undo makes of a list; without an undo it stays
 abbrev pub before_one : Option KeepsUndo → Keeps → keeps.Contents
 before_one None k = keeps.contents k
 before_one (Some undo) k = keeps.before undo k
+
+-- how much the list then has room for
+abbrev pub room_one : Option KeepsUndo → Keeps → ℕ
+room_one None k = keeps.room_of k
+room_one (Some undo) k = keeps.room_back undo k
+
+-- the undo at a position, if there is one
+abbrev pub undo_at : List (Option KeepsUndo) → ℕ → Option KeepsUndo
+undo_at undos position = slice_index_or undos position None
+
+-- with the ones undos taken from the one nodes, and the others from the others, no list has less room in these
+abbrev pub HaveRoomBack : List (Option KeepsUndo) → List Node → List (Option KeepsUndo) → List Node
+    → Type 0
+HaveRoomBack undos nodes others more =
+    (position : ℕ) (a b : Node) → slice_get nodes position ≡ Some a
+    → slice_get more position ≡ Some b
+    → room_one (undo_at undos position) a.keeps ≤ room_one (undo_at others position) b.keeps
+
+-- no list has lost room
+abbrev pub HaveRoomOf : List Node → List Node → Type 0
+HaveRoomOf old new = HaveRoomBack [] old [] new
 
 abbrev pub CanGoBack : Option KeepsUndo → Keeps → Type 0
 CanGoBack None k = ⊤
@@ -116,11 +131,17 @@ before undo k =
       positions = k.positions;
     }
 
--- the undo is of the graph's last change: it leads back to what the graph was, and can be made
+-- the undo is of the graph's last change: it leads back to what the graph was, in no less room, and can be made
 pub record IsUndo (undo : GraphUndo) (old new : Kept) : Type 0 where
   pub back : before undo new ≡ contents old
+  pub room : HaveRoomBack [] old.nodes (by_position (length new.nodes) undo.made.items) new.nodes
   pub can : CanAllGoBack (by_position (length new.nodes) undo.made.items) new.nodes
   pub apart : AreApart (length new.nodes) undo.made.items
+
+-- where the undo was taken from the one graph, no list has less room in the other than that leaves
+abbrev pub IsAsRoomy : GraphUndo → Kept → Kept → Type 0
+IsAsRoomy undo k new =
+    HaveRoomBack (by_position (length k.nodes) undo.made.items) k.nodes [] new.nodes
 
 -- the undo leads back to a graph, and can be made
 pub record CanRetreat (undo : GraphUndo) (k : Kept) : Type 0 where

@@ -2,10 +2,11 @@
 
 ghost use Rattle.std.specs.Prelude.{◌≡◌, Some};
 ghost use Rattle.spec_states.specs.Plan.{origin as about};
-ghost use Rattle.spec_states.specs.View.{matcher as giving_matcher, bounds as giving_bounds, func as giving_func};
+ghost use Rattle.spec_states.specs.View.{matcher as giving_matcher, order as giving_order, bounds as giving_bounds, func as giving_func};
 ghost use Rattle.spec_states.specs.Wave.{parameter_of};
-ghost use Rattle.gl_graph.specs.Commands.{IsMatcher, IsBounds, IsFunc};
+ghost use Rattle.gl_graph.specs.Commands.{IsMatcher, IsOrder, IsBounds, IsFunc};
 
+use gl_kernels::Order;
 use gl_plan::{Bounds, Command, Func, Matcher};
 
 /// The number of the list that a command is about.
@@ -41,6 +42,17 @@ pub(crate) fn matcher_of(command: &Command) -> &Matcher
 {
     match command {
         Command::Match { list: _, matcher } => matcher,
+        _ => unreachable!(),
+    }
+}
+
+/// The order that a command gives.
+pub(crate) fn order_of(command: &Command) -> &Order
+    requires { IsOrder (parameter_of command.now) }
+    ensures { parameter_of command.now ≡ Some (giving_order result.now) }
+{
+    match command {
+        Command::Order { list: _, order } => order,
         _ => unreachable!(),
     }
 }

@@ -12,11 +12,12 @@ ghost use Rattle.gl_kernels.specs.Stands as filter_stands;
 ghost use Rattle.gl_kernels.specs.Told.{change_cost};
 ghost use Rattle.gl_source.specs.Found.{found};
 ghost use Rattle.gl_graph.specs.Commands.{Gives};
-ghost use Rattle.gl_graph.specs.Derived.{view_of_derived, StandsFor, contents, room_of, before, CanRetreat, IsUndo, AsksOf, AsksFor};
+ghost use Rattle.gl_graph.specs.Derived.{view_of_derived, StandsFor, contents, room_of, room_back, before, CanRetreat, IsUndo, AsksOf, AsksFor};
 
-use crate::command::{bounds_of, func_of, matcher_of};
+use crate::command::{bounds_of, func_of, matcher_of, order_of};
 use gl_kernels::{
-    Delta, Filter, FilterUndo, Find, Function, FunctionUndo, RangeKernel, RangeUndo, kind,
+    Delta, Filter, FilterUndo, Find, Function, FunctionUndo, RangeKernel, RangeUndo, Sorted,
+    SortedUndo, kind,
 };
 use gl_plan::{Command, Matcher, Shelf, Steps};
 use std::alloc::{AllocError, Global};
@@ -26,6 +27,7 @@ use std::sync::ledger::Ledger;
 #[derive(Drop)]
 pub enum Derived {
     Filter(Filter),
+    Sorted(Sorted),
     Range(RangeKernel),
     Function(Function),
 }
@@ -34,6 +36,7 @@ pub enum Derived {
 #[derive(Drop)]
 pub enum DerivedUndo {
     Filter(FilterUndo),
+    Sorted(SortedUndo),
     Range(RangeUndo),
     Function(FunctionUndo),
 }
@@ -46,6 +49,7 @@ impl Derived {
     {
         match self {
             Derived::Filter(filter) => filter.len(),
+            Derived::Sorted(sorted) => sorted.len(),
             Derived::Range(range) => range.len(),
             Derived::Function(function) => function.len(),
         }
@@ -58,6 +62,7 @@ impl Derived {
     {
         match self {
             Derived::Filter(filter) => filter.find(position),
+            Derived::Sorted(sorted) => sorted.find(position),
             Derived::Range(range) => range.find(position),
             Derived::Function(function) => function.find(position),
         }
@@ -78,13 +83,18 @@ impl Derived {
         ensures view { OnOk result (view_of_derived self.new ≡ view_of_derived self.old) }
         ensures undo { IfOk result (λ told. IsUndo told.1 self.old self.new) }
         ensures err { OnErr result (contents self.new ≡ contents self.old) }
-        ensures room { room_of self.old ≤ room_of self.new }
-        ensures counted { AsksOf self.old d.now.pieces steps.old steps.new }
+        ensures room { OnErr result (room_of self.old ≤ room_of self.new) }
+        ensures counted { AsksOf self.old d.now.pieces (length (S.items input.now)) steps.old
+            steps.new }
     {
         match self {
             Derived::Filter(filter) => {
                 let (out, undo) = filter.advance(input, d, steps)?;
                 Ok((out, DerivedUndo::Filter(undo)))
+            }
+            Derived::Sorted(sorted) => {
+                let (out, undo) = sorted.advance(input, d, steps)?;
+                Ok((out, DerivedUndo::Sorted(undo)))
             }
             Derived::Range(range) => {
                 let (out, undo) = range.advance(input, d, steps)?;
@@ -115,14 +125,18 @@ impl Derived {
             (view_of_derived self.new ≡ view_after (parameter_of command.now) (view_of_derived self.old)) }
         ensures undo { IfOk result (λ told. IsUndo told.1 self.old self.new) }
         ensures err { OnErr result (contents self.new ≡ contents self.old) }
-        ensures room { room_of self.old ≤ room_of self.new }
+        ensures room { OnErr result (room_of self.old ≤ room_of self.new) }
         ensures counted { (given : Parameter) → parameter_of command.now ≡ Some given
-            → AsksFor self.old given steps.old steps.new }
+            → AsksFor self.old given (length (S.items input.now)) steps.old steps.new }
     {
         match self {
             Derived::Filter(filter) => {
                 let (out, undo) = change_filter(filter, alloc, matcher_of(command), input, steps)?;
                 Ok((out, DerivedUndo::Filter(undo)))
+            }
+            Derived::Sorted(sorted) => {
+                let (out, undo) = sorted.change(order_of(command).copy(alloc)?, input, steps)?;
+                Ok((out, DerivedUndo::Sorted(undo)))
             }
             Derived::Range(range) => {
                 let (out, undo) = range.change(bounds_of(command), input)?;
@@ -139,11 +153,15 @@ impl Derived {
     pub fn retreat(&mut self, undo: DerivedUndo)
         requires { CanRetreat undo self.old }
         ensures back { contents self.new ≡ before undo self.old }
-        ensures room { room_of self.old ≤ room_of self.new }
+        ensures room { room_back undo self.old ≤ room_of self.new }
     {
         match undo {
             DerivedUndo::Filter(undo) => match self {
                 Derived::Filter(filter) => filter.retreat(undo),
+                _ => unreachable!(),
+            },
+            DerivedUndo::Sorted(undo) => match self {
+                Derived::Sorted(sorted) => sorted.retreat(undo),
                 _ => unreachable!(),
             },
             DerivedUndo::Range(undo) => match self {

@@ -1,6 +1,6 @@
 //! The lists of a plan.
 
-ghost use Rattle.std.specs.Prelude.{◌≡◌, ◌<◌, None, Some, length, slice_get, IfOk, IfErr, OnOk, OnErr};
+ghost use Rattle.std.specs.Prelude.{◌≡◌, ◌<◌, [], None, Some, length, slice_get, IfOk, IfErr, OnOk, OnErr};
 ghost use Rattle.std.specs.Option.{option_copied};
 ghost use Rattle.spec_states.specs.Plan.{origin as about};
 ghost use Rattle.spec_states.specs.State.{own_at};
@@ -13,7 +13,7 @@ ghost use Rattle.gl_graph.specs.Graph.{state_of, IsGraph};
 ghost use Rattle.gl_graph.specs.Commands.{Suits};
 ghost use Rattle.gl_graph.specs.Opening.{AreKindsBuilt};
 ghost use Rattle.gl_graph.specs.Build.{IsReason};
-ghost use Rattle.gl_graph.specs.Waves.{AreTold, AreApart, IsRefused, IsUndo, CanRetreat, CanAllGoBack, HaveRoomOf, contents, contents_of, before, before_all, by_position};
+ghost use Rattle.gl_graph.specs.Waves.{AreTold, AreApart, IsRefused, IsUndo, CanRetreat, CanAllGoBack, HaveRoomBack, HaveRoomOf, IsAsRoomy, contents, contents_of, before, before_all, by_position};
 ghost use Rattle.gl_graph.specs.Backs.{CanGoBackAt, IsBackAt};
 
 use crate::command::about;
@@ -150,7 +150,7 @@ impl Graph {
         ensures limit { self.new.limit ≡ self.old.limit }
         ensures refused { IfErr result (IsRefused self.old.limit (state_of self.old) command.now) }
         ensures err { OnErr result (contents self.new ≡ contents self.old) }
-        ensures room { HaveRoomOf self.old.nodes self.new.nodes }
+        ensures room { OnErr result (HaveRoomOf self.old.nodes self.new.nodes) }
     {
         let mut deltas = Deltas::make(self.alloc, self.positions.len() as u32)?;
         let mut made = Vec::new(self.alloc);
@@ -181,7 +181,7 @@ impl Graph {
     pub fn retreat(&mut self, undo: GraphUndo)
         requires { CanRetreat undo self.old }
         ensures back { contents self.new ≡ before undo self.old }
-        ensures room { HaveRoomOf self.old.nodes self.new.nodes }
+        ensures room { IsAsRoomy undo self.old self.new }
     {
         take_back(&mut self.nodes, undo.made);
     }
@@ -201,7 +201,8 @@ fn take_back(nodes: &mut Vec<Node>, mut made: Vec<(u32, KeepsUndo)>)
     ensures back { contents_of nodes.new.items
         ≡ before_all (by_position (length nodes.old.items) made.items) nodes.old.items }
     ensures numbers { numbers nodes.new.items ≡ numbers nodes.old.items }
-    ensures room { HaveRoomOf nodes.old.items nodes.new.items }
+    ensures room { HaveRoomBack (by_position (length nodes.old.items) made.items) nodes.old.items
+        [] nodes.new.items }
 {
     'made: while let Some((position, undo)) = made.pop() {
         go_back(nodes, position as usize, undo);

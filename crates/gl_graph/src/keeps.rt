@@ -12,7 +12,7 @@ ghost use Rattle.gl_graph.specs.Derived as derived_keeps;
 ghost use Rattle.gl_graph.specs.Nodes.{own_of, StandsFor, OnInput, IsPlaced, AreSettled, input_of, input_shown, shown_by};
 ghost use Rattle.gl_graph.specs.Commands.{Gives, Suits};
 ghost use Rattle.gl_graph.specs.Graph.{IsLimited};
-ghost use Rattle.gl_graph.specs.Undos.{contents, before, room_of, CanRetreat};
+ghost use Rattle.gl_graph.specs.Undos.{contents, before, room_of, room_back, CanRetreat};
 ghost use Rattle.gl_graph.specs.Spread.{CanTurn, IsChanged, IsStep, IsStopped, IsRefusalOf};
 
 use crate::derived::{Derived, DerivedUndo};
@@ -98,7 +98,7 @@ impl Keeps {
         ensures err { OnErr result (contents self.new ≡ contents self.old) }
         ensures stopped { (limit : ℕ) → IsLimited limit self.old → IfErr result
             (IsStopped limit (Some start) (shown_by prefix.now positions.now) command.now deltas.now list (own_of self.old)) }
-        ensures room { room_of self.old ≤ room_of self.new }
+        ensures room { OnErr result (room_of self.old ≤ room_of self.new) }
     {
         if list == start {
             return match self.begin(alloc, list, prefix, positions, command, deltas, steps) {
@@ -138,7 +138,7 @@ impl Keeps {
         ensures err { OnErr result (contents self.new ≡ contents self.old) }
         ensures stopped { (limit : ℕ) → IsLimited limit self.old → IfErr result
             (IsStopped limit (Some list) (shown_by prefix.now positions.now) command.now deltas.now list (own_of self.old)) }
-        ensures room { room_of self.old ≤ room_of self.new }
+        ensures room { OnErr result (room_of self.old ≤ room_of self.new) }
     {
         match self {
             Keeps::Source(source) => match edit_source(source, alloc, command) {
@@ -158,7 +158,7 @@ impl Keeps {
     pub fn retreat(&mut self, undo: KeepsUndo)
         requires { CanRetreat undo self.old }
         ensures back { contents self.new ≡ before undo self.old }
-        ensures room { room_of self.old ≤ room_of self.new }
+        ensures room { room_back undo self.old ≤ room_of self.new }
     {
         match undo {
             KeepsUndo::Source(undo) => match self {
@@ -197,7 +197,8 @@ fn change<L: Ledger>(
     ensures undo { IfOk result (λ told. derived_keeps.IsUndo told.1 derived.old derived.new) }
     ensures err { OnErr result
         (derived_keeps.contents derived.new ≡ derived_keeps.contents derived.old) }
-    ensures room { derived_keeps.room_of derived.old ≤ derived_keeps.room_of derived.new }
+    ensures room { OnErr result
+        (derived_keeps.room_of derived.old ≤ derived_keeps.room_of derived.new) }
 {
     let shelf = see(prefix, positions, input);
     derived.change(alloc, command, &shelf, steps)
@@ -225,7 +226,8 @@ fn follow<L: Ledger>(
     ensures undo { IfOk result (λ told. derived_keeps.IsUndo told.1 derived.old derived.new) }
     ensures err { OnErr result
         (derived_keeps.contents derived.new ≡ derived_keeps.contents derived.old) }
-    ensures room { derived_keeps.room_of derived.old ≤ derived_keeps.room_of derived.new }
+    ensures room { OnErr result
+        (derived_keeps.room_of derived.old ≤ derived_keeps.room_of derived.new) }
 {
     let shelf = see(prefix, positions, input);
     derived.advance(&shelf, d, steps)

@@ -13,7 +13,7 @@ use crate::derived::Derived;
 use crate::keeps::Keeps;
 use crate::node::Node;
 use crate::seen::see;
-use gl_kernels::{Filter, Function, RangeKernel};
+use gl_kernels::{Filter, Function, RangeKernel, Sorted};
 use gl_plan::{ListKind, Steps, Values};
 use gl_source::{OpenFault, SourceList};
 use std::alloc::Global;
@@ -73,6 +73,11 @@ fn made<L: Ledger>(
             let shelf = see(prefix, positions, *input);
             let filter = Filter::make(alloc, matcher.copy(alloc)?, &shelf, steps)?;
             Ok(over(*input, Derived::Filter(filter)))
+        }
+        ListKind::Sorted { input, order } => {
+            let shelf = see(prefix, positions, *input);
+            let sorted = Sorted::make(alloc, order.copy(alloc)?, &shelf, steps)?;
+            Ok(over(*input, Derived::Sorted(sorted)))
         }
         ListKind::Range { input, bounds } => {
             let shelf = see(prefix, positions, *input);

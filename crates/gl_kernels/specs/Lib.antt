@@ -3,3 +3,5 @@ pub use Rattle.gl_filter.specs.Told
 pub use Rattle.gl_range.specs.Kept
 pub use Rattle.gl_range.specs.Stands as RangeStands
 pub use Rattle.gl_function.specs.Stands as FunctionStands
+pub use Rattle.gl_arranged.specs.Stands as SortedStands
+pub use Rattle.gl_arranged.specs.Changes as SortedChanges

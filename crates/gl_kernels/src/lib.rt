@@ -4,4 +4,6 @@
 pub use gl_filter::{Filter, FilterUndo, kind};
 pub use gl_function::{Function, FunctionUndo};
 pub use gl_kernel::{Delta, Deltas, Find, Kernel};
+pub use gl_lang::Order;
 pub use gl_range::{RangeKernel, RangeUndo};
+pub use gl_sorted::{Sorted, SortedUndo};

@@ -1,9 +1,9 @@
 -- Laws on the way back of a section.
-use Rattle.std.proofs.Common.{◌≡◌, ◌∙◌, List, [], ◌∷◌, ◌++◌, refl, ap, sym}
+use Rattle.std.proofs.Common.{◌≡◌, ◌∙◌, List, [], ◌∷◌, ◌++◌, length, refl, ap, sym}
 use Rattle.gl_graph.specs.declared.graph.GraphUndo.{GraphUndo}
 use Rattle.gl_graph.specs.Nodes.{numbers}
 use Rattle.gl_graph.specs.Graph.{Kept, IsGraph}
-use Rattle.gl_graph.specs.Waves.{Contents, contents, before, HaveRoomOf, IsUndo, CanRetreat}
+use Rattle.gl_graph.specs.Waves.{Contents, contents, before, by_position, HaveRoomOf, IsAsRoomy, IsUndo, CanRetreat}
 use Rattle.gl_graph.proofs.Progress.{room_same, room_on, contents_same_graph, undo_carries, undo_numbers, undo_reaches, undo_can}
 use Rattle.gl_world.specs.Back.{IsChanged, IsLike, Leads, CanGoBack, GoesOn}
 
@@ -16,15 +16,19 @@ same_numbers a b e = ap (λ (c : Contents). c.numbers) (sym e)
 like_on : (a b c : Kept) → IsLike a b → IsLike b c → IsLike a c
 like_on a b c h k = record {
   same = k.same ∙ h.same;
-  room = room_on a.nodes b.nodes c.nodes (same_numbers a b h.same) h.room k.room;
+  room = room_on [] [] [] a.nodes b.nodes c.nodes (same_numbers a b h.same) h.room k.room;
 }
 
 -- a change of what is like a graph is one of the graph
 like_changed : (undo : GraphUndo) (a b c : Kept) → IsLike a b → IsChanged undo b c → IsChanged undo a c
 like_changed undo a b c h k = record {
   graph = contents_same_graph b a h.same k.graph;
-  is = record { back = k.is.back ∙ h.same; can = k.is.can; apart = k.is.apart };
-  room = room_on a.nodes b.nodes c.nodes (same_numbers a b h.same) h.room k.room;
+  is = record {
+    back = k.is.back ∙ h.same;
+    room = room_on [] [] (by_position (length c.nodes) undo.made.items) a.nodes b.nodes c.nodes (same_numbers a b h.same) h.room k.is.room;
+    can = k.is.can;
+    apart = k.is.apart;
+  };
 }
 
 -- and what is like the changed graph is changed so
@@ -32,7 +36,6 @@ changed_like : (undo : GraphUndo) (a b c : Kept) → IsChanged undo a b → IsLi
 changed_like undo a b c h k = record {
   graph = h.graph;
   is = undo_carries undo a b c h.is k.same k.room;
-  room = room_on a.nodes b.nodes c.nodes (undo_numbers undo a b h.is) h.room k.room;
 }
 
 -- undos lead back from what is like the graph
@@ -74,12 +77,12 @@ last_can undos undo now h =
 -- and then the other undos lead back
 pub others_lead : (undos : List GraphUndo) (undo : GraphUndo) (start now next : Kept)
     → Leads (undos ++ undo ∷ []) start now
-    → contents next ≡ before undo now → HaveRoomOf now.nodes next.nodes → Leads undos start next
+    → contents next ≡ before undo now → IsAsRoomy undo now next → Leads undos start next
 others_lead undos undo start now next h back room =
     let l : IsLast undos undo start now = last_of undos undo start now h in
     leads_like undos start l.old next l.leads (record {
       same = undo_reaches undo l.old now next l.changed.is back;
-      room = room_on l.old.nodes now.nodes next.nodes (undo_numbers undo l.old now l.changed.is) l.changed.room room;
+      room = room_on [] (by_position (length now.nodes) undo.made.items) [] l.old.nodes now.nodes next.nodes (undo_numbers undo l.old now l.changed.is) l.changed.is.room room;
     })
 
 -- ---- a command
@@ -91,14 +94,13 @@ goes_like undos old new same room start h = leads_like undos start old new h (re
 
 -- one that made a change whose undo was kept
 pub goes_more : (undos : List GraphUndo) (undo : GraphUndo) (old new : Kept) → IsGraph old.limit old.nodes old.positions
-    → IsUndo undo old new → HaveRoomOf old.nodes new.nodes → GoesOn undos old (undos ++ undo ∷ []) new
-goes_more undos undo old new graph is room start h =
-    leads_more undos undo start old new h (record { graph = graph; is = is; room = room })
+    → IsUndo undo old new → GoesOn undos old (undos ++ undo ∷ []) new
+goes_more undos undo old new graph is start h =
+    leads_more undos undo start old new h (record { graph = graph; is = is })
 
 -- one that made a change that was taken back
 pub goes_back : (undos : List GraphUndo) (undo : GraphUndo) (old new back : Kept) → IsUndo undo old new
-    → HaveRoomOf old.nodes new.nodes
-    → contents back ≡ before undo new → HaveRoomOf new.nodes back.nodes → GoesOn undos old undos back
-goes_back undos undo old new back is room same more =
+    → contents back ≡ before undo new → IsAsRoomy undo new back → GoesOn undos old undos back
+goes_back undos undo old new back is same more =
     goes_like undos old back (undo_reaches undo old new back is same)
-    (room_on old.nodes new.nodes back.nodes (undo_numbers undo old new is) room more)
+    (room_on [] (by_position (length new.nodes) undo.made.items) [] old.nodes new.nodes back.nodes (undo_numbers undo old new is) is.room more)

@@ -13,9 +13,9 @@ use Rattle.gl_graph.specs.Opening.{IsKindBuilt, AreKindsBuilt}
 kind_built : (kind : ListKind) → is_built_kind kind ≡ true → IsKindBuilt kind
 kind_built (kinds.Source rows) e = tt
 kind_built (kinds.Filter input matcher) e = tt
+kind_built (kinds.Sorted input order) e = tt
 kind_built (kinds.Range input bounds) e = tt
 kind_built (kinds.Function input func) e = tt
-kind_built (kinds.Sorted input order) e = absurd cc
 kind_built (kinds.Unique input order) e = absurd cc
 kind_built (kinds.Grouping input order) e = absurd cc
 kind_built (kinds.Collection input kids) e = absurd cc

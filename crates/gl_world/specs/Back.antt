@@ -4,11 +4,10 @@ use Rattle.gl_graph.specs.declared.graph.GraphUndo.{GraphUndo}
 use Rattle.gl_graph.specs.Graph.{Kept, IsGraph}
 use Rattle.gl_graph.specs.Waves.{contents, HaveRoomOf, IsUndo}
 
--- a graph changed, this is the undo, and no room was lost
+-- a graph changed, and this is the undo
 pub record IsChanged (undo : GraphUndo) (old new : Kept) : Type 0 where
   pub graph : IsGraph old.limit old.nodes old.positions
   pub is : IsUndo undo old new
-  pub room : HaveRoomOf old.nodes new.nodes
 
 -- a graph is what another one is, with no less room
 pub record IsLike (old new : Kept) : Type 0 where

@@ -2,7 +2,7 @@
 
 ghost use Rattle.std.specs.Prelude.{◌≡◌, ◌++◌, ◌∷◌, [], OnOk, OnErr};
 ghost use Rattle.gl_graph.specs.Graph.{Kept};
-ghost use Rattle.gl_graph.specs.Waves.{contents, before, HaveRoomOf, CanRetreat};
+ghost use Rattle.gl_graph.specs.Waves.{contents, before, IsAsRoomy, CanRetreat};
 ghost use Rattle.gl_world.specs.Back.{Leads, CanGoBack};
 
 use gl_graph::{Graph, GraphUndo};
@@ -30,7 +30,7 @@ pub(crate) fn keep(
     ensures same { OnOk result (graph.new ≡ graph.old) }
     ensures others { OnErr result (undos.new.items ≡ undos.old.items) }
     ensures back { OnErr result (contents graph.new ≡ before undo graph.old) }
-    ensures room { HaveRoomOf graph.old.nodes graph.new.nodes }
+    ensures room { OnErr result (IsAsRoomy undo graph.old graph.new) }
 {
     match undos.push(undo) {
         Ok(()) => Ok(()),

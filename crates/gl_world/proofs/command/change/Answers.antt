@@ -24,8 +24,7 @@ returns-in_err-keep-in-Ok-clause-back g c =
     let e = c.in-Ok.ensures in
     let k = c.in_err-keep-in-Ok.ensures in
     let P : List GraphUndo → Type 0 = λ us. GoesOn undos old us c.keep.new.graph in
-    subst P (sym k.others) (goes_back undos c.in-Ok.field-0.undo old c.wave.new.self c.keep.new.graph e.undo e.room
-    k.back k.room)
+    subst P (sym k.others) (goes_back undos c.in-Ok.field-0.undo old c.wave.new.self c.keep.new.graph e.undo k.back k.room)
 
 pub join_all-requires-clause-meet : goal.join_all-requires-clause-meet
 join_all-requires-clause-meet g c =
@@ -44,7 +43,7 @@ returns-in_err-join_all-in-Ok-clause-back g c =
     let P : List GraphUndo → Type 0 = λ us. GoesOn undos old us c.keep.new.graph in
     let Q : Kept → Type 0 = λ now. GoesOn undos old (undos ++ c.in-Ok.field-0.undo ∷ []) now in
     subst P (sym k.kept) (subst Q (sym k.same) (goes_more undos c.in-Ok.field-0.undo old c.wave.new.self c.law.ensures
-    e.undo e.room))
+    e.undo))
 
 pub returns-in_ok-join_all-in-Ok-clause-back : goal.returns-in_ok-join_all-in-Ok-clause-back
 returns-in_ok-join_all-in-Ok-clause-back g c =
@@ -55,7 +54,7 @@ returns-in_ok-join_all-in-Ok-clause-back g c =
     let P : List GraphUndo → Type 0 = λ us. GoesOn undos old us c.keep.new.graph in
     let Q : Kept → Type 0 = λ now. GoesOn undos old (undos ++ c.in-Ok.field-0.undo ∷ []) now in
     subst P (sym k.kept) (subst Q (sym k.same) (goes_more undos c.in-Ok.field-0.undo old c.wave.new.self c.law.ensures
-    e.undo e.room))
+    e.undo))
 
 pub returns-in_ok-join_all-in-Ok-clause-told : goal.returns-in_ok-join_all-in-Ok-clause-told
 returns-in_ok-join_all-in-Ok-clause-told g c =

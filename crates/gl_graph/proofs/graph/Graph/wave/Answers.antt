@@ -1,4 +1,4 @@
-use Rattle.std.proofs.Common.{◌≡◌, ◌<◌, ◌∙◌, length, replicate, ap, sym, subst, arith}
+use Rattle.std.proofs.Common.{◌≡◌, ◌<◌, ◌∙◌, [], length, replicate, ap, sym, subst, arith}
 use Rattle.std.specs.Prelude.{Some, None, slice_index}
 use Rattle.spec_states.specs.Plan.{origin as about}
 use Rattle.spec_states.specs.State.{own_at}
@@ -6,7 +6,7 @@ use Rattle.spec_states.specs.Step.{unmoved}
 use Rattle.spec_states.specs.Wave.{command as made_by, wave}
 use Rattle.gl_graph.specs.Commands.{Suits}
 use Rattle.gl_graph.specs.Graph.{Kept, state_of}
-use Rattle.gl_graph.specs.Waves.{AreTold, HaveRoomOf}
+use Rattle.gl_graph.specs.Waves.{AreTold, by_position, HaveRoomOf}
 use Rattle.gl_graph.specs.Spread.{IsSpread}
 use Rattle.gl_graph.proofs.Alike.{graph_same}
 use Rattle.gl_graph.proofs.Plain.{long_state}
@@ -97,4 +97,5 @@ returns-in-Err-clause-room g c =
     let mid = c.spread_all.new.nodes.items in
     let now = c.take_back.new.nodes.items in
     let lead = c.in-Err.ensures.back.lead in
-    subst (λ (m : Kept). HaveRoomOf m.nodes now) c.self.view_is (room_on k.nodes.items mid now (sym lead.numbers_are) lead.room c.take_back.ensures.room)
+    let undos = by_position (length mid) c.spread_all.new.made.items in
+    subst (λ (m : Kept). HaveRoomOf m.nodes now) c.self.view_is (room_on [] undos [] k.nodes.items mid now (sym lead.numbers_are) lead.room c.take_back.ensures.room)

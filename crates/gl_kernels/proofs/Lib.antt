@@ -1,0 +1,1 @@
+pub use Rattle.gl_arranged.proofs.Rooms as SortedRooms
