@@ -29,6 +29,7 @@ fn is_built_kind(kind: &ListKind) -> bool
         ListKind::Sorted { .. } => true,
         ListKind::Range { .. } => true,
         ListKind::Function { .. } => true,
+        ListKind::Collection { .. } => true,
         _ => false,
     }
 }

@@ -19,8 +19,8 @@ use Rattle.gl_graph.specs.Spread.{delta_of, IsStep}
 
 pub following : (start list : ℕ) (shows : ℕ → List Tree) (c : Command) (deltas : List (Option DeltaModel)) (input : ℕ) (old new : Derived) (d out : DeltaModel) (undo : DerivedUndo) → list ≢ start
     → slice_index_or deltas input None ≡ Some d → out.pieces ≡ follow_of (view_of_derived old) (undone d.pieces (shows input)) d.pieces → derived.StandsFor new (shows input)
-    → view_of_derived new ≡ view_of_derived old → derived.IsUndo undo old new → IsStep (Some start) shows c deltas list (Over input old) (Over input new) (Some (out, u.Over undo))
-following start list shows c deltas input old new d out undo other told delta stands view is = inr (
+    → view_of_derived new ≡ view_of_derived old → derived.limit_of new ≡ derived.limit_of old → derived.IsUndo undo old new → IsStep (Some start) shows c deltas list (Over input old) (Over input new) (Some (out, u.Over undo))
+following start list shows c deltas input old new d out undo other told delta stands view limit is = inr (
   λ e. other (same e),
   record {
     reached = record { input = input; among = Contains-here input [] input refl; d = d; told = told };
@@ -28,7 +28,7 @@ following start list shows c deltas input old new d out undo other told delta st
       told = delta ∙ ap (λ t. follow_of (view_of_derived old) (undone (delta_of t (length (shows input))) (shows input)) (delta_of t (length (shows input)))) (sym told);
       stands = stands;
       own_is = ap (over input) view;
-      limit = refl;
+      limit = limit;
       undo = record { back = ap (of_over input) is.back; room = is.room; can = is.can };
     };
   },

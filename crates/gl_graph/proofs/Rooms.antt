@@ -12,10 +12,10 @@ use Rattle.gl_graph.specs.declared.keeps.Keeps.TheVariants.{Source, Over}
 use Rattle.gl_graph.specs.declared.keeps.KeepsUndo.{KeepsUndo}
 use Rattle.gl_graph.specs.declared.keeps.KeepsUndo.TheVariants as u
 use Rattle.gl_graph.specs.Derived as derived
-use Rattle.gl_graph.specs.Derived.{of_filter, of_sorted, of_range, of_function, view_of_derived}
+use Rattle.gl_graph.specs.Derived.{of_filter, of_sorted, of_range, of_function, of_collection, view_of_derived}
 use Rattle.spec_states.specs.State.{over}
 use Rattle.gl_graph.specs.Nodes.{own_of, OnInput, StandsFor}
-use Rattle.gl_graph.specs.Graph.{IsLimited}
+use Rattle.gl_graph.specs.Graph.{IsLimit, IsLimited}
 use Rattle.gl_graph.specs.Undos.{Contents, of_source, of_over, contents, room_of, room_back, before, CanRetreat}
 
 -- the list over one input of these contents that has so much room
@@ -24,12 +24,14 @@ derived_with room (of_filter c) = d.Filter (record { matcher = c.matcher; shown 
 derived_with room (of_sorted c) = d.Sorted (sorted.with_room room c)
 derived_with room (of_range c) = d.Range c
 derived_with room (of_function c) = d.Function (record { func = c.func; values = c.values; room = room })
+derived_with room (of_collection c) = d.Collection (record { kids = c.kids; limit = c.limit; lens = c.lens; room = room })
 
 derived_own : (o : Derived) → derived_with (derived.room_of o) (derived.contents o) ≡ o
 derived_own (d.Filter k) = refl
 derived_own (d.Sorted k) = refl
 derived_own (d.Range k) = refl
 derived_own (d.Function k) = refl
+derived_own (d.Collection k) = refl
 
 -- what holds whatever the room
 derived_view : (r s : ℕ) (c : derived.Contents) → view_of_derived (derived_with r c) ≡ view_of_derived (derived_with s c)
@@ -37,12 +39,21 @@ derived_view r s (of_filter c) = refl
 derived_view r s (of_sorted c) = refl
 derived_view r s (of_range c) = refl
 derived_view r s (of_function c) = refl
+derived_view r s (of_collection c) = refl
 
 derived_stands : (xs : List Tree) (r s : ℕ) (c : derived.Contents) → derived.StandsFor (derived_with r c) xs → derived.StandsFor (derived_with s c) xs
 derived_stands xs r s (of_filter c) h = h
 derived_stands xs r s (of_sorted c) h = record { places = h.places; marks = h.marks }
 derived_stands xs r s (of_range c) h = h
 derived_stands xs r s (of_function c) h = h
+derived_stands xs r s (of_collection c) h = h
+
+derived_limit : (r s : ℕ) (c : derived.Contents) → derived.limit_of (derived_with r c) ≡ derived.limit_of (derived_with s c)
+derived_limit r s (of_filter c) = refl
+derived_limit r s (of_sorted c) = refl
+derived_limit r s (of_range c) = refl
+derived_limit r s (of_function c) = refl
+derived_limit r s (of_collection c) = refl
 
 -- an undo makes the same of it; one of another kind makes nothing of it
 derived_before : (undo : DerivedUndo) (r s : ℕ) (c : derived.Contents) → derived.before undo (derived_with r c) ≡ derived.before undo (derived_with s c)
@@ -50,18 +61,27 @@ derived_before (du.Filter undo) r s (of_filter c) = refl
 derived_before (du.Filter undo) r s (of_sorted c) = refl
 derived_before (du.Filter undo) r s (of_range c) = refl
 derived_before (du.Filter undo) r s (of_function c) = refl
+derived_before (du.Filter undo) r s (of_collection c) = refl
 derived_before (du.Sorted undo) r s (of_filter c) = refl
 derived_before (du.Sorted undo) r s (of_sorted c) = ap of_sorted (sorted.before_same undo r s c)
 derived_before (du.Sorted undo) r s (of_range c) = refl
 derived_before (du.Sorted undo) r s (of_function c) = refl
+derived_before (du.Sorted undo) r s (of_collection c) = refl
 derived_before (du.Range undo) r s (of_filter c) = refl
 derived_before (du.Range undo) r s (of_sorted c) = refl
 derived_before (du.Range undo) r s (of_range c) = refl
 derived_before (du.Range undo) r s (of_function c) = refl
+derived_before (du.Range undo) r s (of_collection c) = refl
 derived_before (du.Function undo) r s (of_filter c) = refl
 derived_before (du.Function undo) r s (of_sorted c) = refl
 derived_before (du.Function undo) r s (of_range c) = refl
 derived_before (du.Function undo) r s (of_function c) = refl
+derived_before (du.Function undo) r s (of_collection c) = refl
+derived_before (du.Collection undo) r s (of_filter c) = refl
+derived_before (du.Collection undo) r s (of_sorted c) = refl
+derived_before (du.Collection undo) r s (of_range c) = refl
+derived_before (du.Collection undo) r s (of_function c) = refl
+derived_before (du.Collection undo) r s (of_collection c) = refl
 
 -- it can be taken in more room, and then leaves no less
 record IsRoomier (undo : DerivedUndo) (less more : Derived) : Type 0 where
@@ -77,18 +97,30 @@ derived_in_more (du.Sorted undo) r s (of_sorted c) h can = record {
 }
 derived_in_more (du.Range undo) r s (of_range c) h can = record { can = tt; room = omega arith }
 derived_in_more (du.Function undo) r s (of_function c) h can = record { can = can_play_more _ r s undo.log.items c.values h can; room = h }
+derived_in_more (du.Collection undo) r s (of_collection c) h can = record {
+  can = record { within = can.within; can = can_play_more _ r s undo.log.items c.lens h can.can };
+  room = h;
+}
 derived_in_more (du.Filter undo) r s (of_sorted c) h can = absurd can
 derived_in_more (du.Filter undo) r s (of_range c) h can = absurd can
 derived_in_more (du.Filter undo) r s (of_function c) h can = absurd can
+derived_in_more (du.Filter undo) r s (of_collection c) h can = absurd can
 derived_in_more (du.Sorted undo) r s (of_filter c) h can = absurd can
 derived_in_more (du.Sorted undo) r s (of_range c) h can = absurd can
 derived_in_more (du.Sorted undo) r s (of_function c) h can = absurd can
+derived_in_more (du.Sorted undo) r s (of_collection c) h can = absurd can
 derived_in_more (du.Range undo) r s (of_filter c) h can = absurd can
 derived_in_more (du.Range undo) r s (of_sorted c) h can = absurd can
 derived_in_more (du.Range undo) r s (of_function c) h can = absurd can
+derived_in_more (du.Range undo) r s (of_collection c) h can = absurd can
 derived_in_more (du.Function undo) r s (of_filter c) h can = absurd can
 derived_in_more (du.Function undo) r s (of_sorted c) h can = absurd can
 derived_in_more (du.Function undo) r s (of_range c) h can = absurd can
+derived_in_more (du.Function undo) r s (of_collection c) h can = absurd can
+derived_in_more (du.Collection undo) r s (of_filter c) h can = absurd can
+derived_in_more (du.Collection undo) r s (of_sorted c) h can = absurd can
+derived_in_more (du.Collection undo) r s (of_range c) h can = absurd can
+derived_in_more (du.Collection undo) r s (of_function c) h can = absurd can
 
 -- what a list keeps of these contents that has so much room
 abbrev with_room : ℕ → Contents → Keeps
@@ -127,7 +159,7 @@ limited_same limit a b e h = carried (λ k. IsLimited limit k) any a b e h
   where
     any : (r s : ℕ) (c : Contents) → IsLimited limit (with_room r c) → IsLimited limit (with_room s c)
     any r s (of_source values most) h = h
-    any r s (of_over input c) h = h
+    any r s (of_over input c) h = subst (IsLimit limit) (derived_limit r s c) h
 
 pub on_input_same : (P : ℕ → Type 0) (a b : Keeps) → contents a ≡ contents b → OnInput P a → OnInput P b
 on_input_same P a b e h = carried (λ k. OnInput P k) any a b e h
@@ -145,6 +177,7 @@ before_same undo a b e = carried (λ k. before undo a ≡ before undo k) (λ r s
     same_contents input r s (of_sorted c) = refl
     same_contents input r s (of_range c) = refl
     same_contents input r s (of_function c) = refl
+    same_contents input r s (of_collection c) = refl
 
     any : (undo : KeepsUndo) (r s : ℕ) (c : Contents) → before undo (with_room r c) ≡ before undo (with_room s c)
     any (u.Source undo) r s (of_source values limit) = refl

@@ -1,6 +1,6 @@
 -- Each node in its turn shows its view of what its input shows.
 use Rattle.std.proofs.Common.{◌≡◌, ◌∙◌, ℕ, zero, suc, ◌<◌, List, [], ◌∷◌, ◌++◌, length, option_map, take, refl, ap, sym, subst, arith, inl, inr}
-use Rattle.std.specs.Prelude.{Option, Some, None, slice_get, slice_index}
+use Rattle.std.specs.Prelude.{pos, Option, Some, None, slice_get, slice_index, unwrap_or}
 use Rattle.std.specs.List.{Contains}
 use Rattle.std.proofs.Math.Seq.{take-append_seam}
 use Rattle.std.proofs.lemmas.List.{append_assoc, map-append, length-map}
@@ -8,18 +8,19 @@ use Rattle.std.proofs.lemmas.List.Elements.{Contains-get_or}
 use Rattle.std.proofs.lemmas.List.FromFn.{length-map-range_with_len}
 use Rattle.std.proofs.lemmas.Option.{slice_get_within, get_or_from_slice_get, slice_get-map}
 use Rattle.spec_states.proofs.Members.{Contains-cons_cases}
-use Rattle.spec_states.specs.Tree.{Tree}
+use Rattle.spec_states.specs.Tree.{Tree, num}
+use Rattle.gl_kernels.specs.CollectionStands.{children_at}
 use Rattle.spec_states.specs.State.{State, inputs, own_at}
 use Rattle.spec_states.specs.Shown.{shown_of, nothing_shown}
 use Rattle.spec_states.proofs.DependencyOrder.{Follow}
 use Rattle.spec_states.proofs.Settled.{settled_is}
 use Rattle.spec_states.proofs.Views.{shown_local}
-use Rattle.gl_source.specs.Find.{Find}
-use Rattle.gl_source.specs.Found.{found}
+use Rattle.gl_graph.specs.declared.spot.Spot.{Spot}
+use Rattle.gl_graph.specs.Spots.{spotted}
 use Rattle.gl_graph.specs.declared.keeps.Keeps.{Keeps}
 use Rattle.gl_graph.specs.declared.keeps.Keeps.TheVariants.{Source, Over}
 use Rattle.gl_graph.specs.declared.node.Node.{Node}
-use Rattle.gl_graph.specs.Nodes.{own_of, own_of_node, own_in, state_of, numbers, shown_by, input_of, input_shown, OnInput, StandsFor, IsPlaced, IsInTurn, AreInTurn, AreSettled}
+use Rattle.gl_graph.specs.Nodes.{own_of, own_of_node, own_in, state_of, numbers, shown_by, OnInput, StandsFor, IsPlaced, IsInTurn, AreInTurn, AreSettled}
 use Rattle.gl_graph.proofs.Plain.{own_at_state, state_inward, each_input, on_inputs}
 
 pub own_of_turn : (nodes : List Node) (positions : List ℕ) (position : ℕ) (node : Node) → slice_get nodes position ≡ Some node → IsInTurn nodes positions position node → own_at (state_of nodes positions) node.list ≡ own_of node.keeps
@@ -117,26 +118,12 @@ len_shows nodes positions list node n h is same len =
     len (shown_by nodes positions) (h (slice_index positions list) node is).stands ∙ ap length (sym (list_shows nodes positions list node h is same))
 
 -- where its element stands
-pub find_shows : (nodes : List Node) (positions : List ℕ) (list position : ℕ) (node : Node) (at : Option Find) → AreSettled nodes positions → slice_get nodes (slice_index positions list) ≡ Some node → node.list ≡ list
-    → ((shows : ℕ → List Tree) → StandsFor node.keeps shows → found at (input_shown node.keeps shows) ≡ slice_get (shown_of (own_of node.keeps) shows) position)
-    → found at (input_shown node.keeps (shown_by nodes positions)) ≡ slice_get (shown_by nodes positions list) position
+pub find_shows : (nodes : List Node) (positions : List ℕ) (list position : ℕ) (node : Node) (at : Option Spot) → AreSettled nodes positions → slice_get nodes (slice_index positions list) ≡ Some node → node.list ≡ list
+    → ((shows : ℕ → List Tree) → StandsFor node.keeps shows → spotted at shows ≡ slice_get (shown_of (own_of node.keeps) shows) position)
+    → spotted at (shown_by nodes positions) ≡ slice_get (shown_by nodes positions list) position
 find_shows nodes positions list position node at h is same find =
     find (shown_by nodes positions) (h (slice_index positions list) node is).stands
     ∙ ap (λ xs. slice_get xs position) (sym (list_shows nodes positions list node h is same))
-
--- what a source finds is none of its input's
-pub none_of_input : (keeps : Keeps) (shows : ℕ → List Tree) → input_of keeps ≡ None → input_shown keeps shows ≡ []
-none_of_input (Source k) shows e = refl
-none_of_input (Over input d) shows e = absurd cc
-
-pub some_of_input : (keeps : Keeps) (shows : ℕ → List Tree) (input : ℕ) → input_of keeps ≡ Some input → input_shown keeps shows ≡ shows input
-some_of_input (Source k) shows input e = absurd cc
-some_of_input (Over i d) shows input e = (let same : i ≡ input = cc in ap shows same)
-
--- its input stands before it
-pub on_input : (P : ℕ → Type 0) (keeps : Keeps) (input : ℕ) → input_of keeps ≡ Some input → OnInput P keeps → P input
-on_input P (Source k) input e h = absurd cc
-on_input P (Over i d) input e h = (let same : i ≡ input = cc in subst P same h)
 
 pub get_prefix : (xs : List ℕ) (n k x : ℕ) → slice_get (take n xs) k ≡ Some x → slice_get xs k ≡ Some x
 get_prefix xs zero k x e = absurd cc
@@ -161,3 +148,22 @@ placed_before nodes positions n list placed =
     below [] (suc m) k e = absurd cc
     below (x ∷ xs) (suc m) zero e = omega arith
     below (x ∷ xs) (suc m) (suc k) e = let h : k < m = below xs m k e in omega (arith, h)
+
+-- an element of a list stands in a list before it
+pub spot_before : (nodes : List Node) (positions : List ℕ) (list other : ℕ) (node : Node) → AreSettled nodes positions → slice_get nodes (slice_index positions list) ≡ Some node
+    → Contains (inputs (own_of node.keeps)) other → IsPlaced nodes positions other × (slice_index positions other < slice_index positions list)
+spot_before nodes positions list other node settled is c =
+    let at : ℕ = slice_index positions list in
+    placed_before nodes positions at other
+    (each_input (IsPlaced (take at nodes) positions) node.keeps other (settled at node is).turn.later c)
+
+-- the children of an element go by it alone, and there are none where there is none
+pub no_children : (path : List ℕ) (xs : List Tree) (i : ℕ) → slice_get xs i ≡ None → children_at path xs i ≡ []
+no_children path xs i e = ap (λ o. children_at path (unwrap_or o (num (pos 0)) ∷ []) 0) e ∙ of_number path
+  where
+    of_number : (path : List ℕ) → children_at path (num (pos 0) ∷ []) 0 ≡ []
+    of_number [] = refl
+    of_number (j ∷ path) = refl
+
+pub children_of : (path : List ℕ) (xs : List Tree) (i : ℕ) (x : Tree) → slice_get xs i ≡ Some x → children_at path xs i ≡ children_at path (x ∷ []) 0
+children_of path xs i x e = ap (λ o. children_at path (unwrap_or o (num (pos 0)) ∷ []) 0) e

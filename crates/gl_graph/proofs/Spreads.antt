@@ -19,8 +19,8 @@ use Rattle.gl_graph.specs.declared.keeps.Keeps.TheVariants.{Source, Over}
 use Rattle.gl_graph.specs.declared.node.Node.{Node}
 use Rattle.gl_graph.specs.declared.keeps.KeepsUndo.{KeepsUndo}
 use Rattle.gl_graph.specs.Nodes.{own_of, numbers, state_of, shown_by, StandsFor, AreInTurn, AreSettled}
-use Rattle.gl_graph.specs.Graph.{IsLimited}
-use Rattle.gl_graph.specs.Undos.{limit_of, IsUndo}
+use Rattle.gl_graph.specs.Graph.{limit_of, IsLimit, IsLimited}
+use Rattle.gl_graph.specs.Undos.{IsUndo}
 use Rattle.gl_graph.specs.Waves.{IsTold}
 use Rattle.gl_graph.specs.Spread.{delta_told, shown_before, HasBegun, IsBegun, AreInverse, AreToldTo, IsSetAt, IsStep}
 use Rattle.gl_graph.proofs.Plain.{inward, own_plain, long_state, state_plain, state_inward, state_sound, each_input, follow_local, first_local, stands_local, kept_local}
@@ -175,9 +175,7 @@ on_shows limit old positions c start q nodes was now begun next on =
     ∙ (ap (λ o. shown_of o (shown w)) on.own ∙ sym (shown_in w (wave_ordered s (command c) begun.graph.ordered) (wave_plain old positions c) was.list after))
 
 limited_by : (limit : ℕ) (k m : Keeps) → limit_of m ≡ limit_of k → IsLimited limit k → IsLimited limit m
-limited_by limit (Source k) (Source m) e h = (let same : m.limit ≡ k.limit = cc in same ∙ h)
-limited_by limit (Over i k) (Source m) e h = absurd cc
-limited_by limit k (Over i m) e h = tt
+limited_by limit k m e h = subst (IsLimit limit) (sym e) h
 
 -- a list at the place is the one whose turn it is
 pub the_next : (limit : ℕ) (old : List Node) (positions : List ℕ) (c : Command) (start : Option ℕ) (q : ℕ) (nodes : List Node) (was : Node) (list : ℕ) → IsBegun limit old positions c start → IsNext old positions c q nodes was

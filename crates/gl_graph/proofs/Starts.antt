@@ -47,6 +47,7 @@ built_of P (kinds.Filter input matcher) h f = f input (Contains-here input [] in
 built_of P (kinds.Sorted input order) h f = f input (Contains-here input [] input refl)
 built_of P (kinds.Range input bounds) h f = f input (Contains-here input [] input refl)
 built_of P (kinds.Function input func) h f = f input (Contains-here input [] input refl)
+built_of P (kinds.Collection input kids) h f = f input (Contains-here input [] input refl)
 built_of P other h f = absurd h
 
 -- lists of the kinds that are built are sources and lists over one input
@@ -56,6 +57,7 @@ seen_inward (kinds.Filter input matcher) h = tt
 seen_inward (kinds.Sorted input order) h = tt
 seen_inward (kinds.Range input bounds) h = tt
 seen_inward (kinds.Function input func) h = tt
+seen_inward (kinds.Collection input kids) h = tt
 seen_inward other h = absurd h
 
 seen_opening : (shows : ℕ → List Tree) (kind : ListKind) → IsKindBuilt kind → opening_of shows kind ≡ seen_through kind
@@ -64,6 +66,7 @@ seen_opening shows (kinds.Filter input matcher) h = refl
 seen_opening shows (kinds.Sorted input order) h = refl
 seen_opening shows (kinds.Range input bounds) h = refl
 seen_opening shows (kinds.Function input func) h = refl
+seen_opening shows (kinds.Collection input kids) h = refl
 seen_opening shows other h = absurd h
 
 built_rest : (d : ListDecl) (lists : List ListDecl) → AreKindsBuilt (d ∷ lists) → AreKindsBuilt lists

@@ -1,9 +1,9 @@
 -- What a list over one input keeps in a graph: the one file that goes by its kind.
-use Rattle.std.specs.Prelude.{◌≡◌, ◌≤◌, ◌<◌, ◌+◌, ◌*◌, ◌^◌, ⊤, ℕ, List}
+use Rattle.std.specs.Prelude.{◌≡◌, ◌≤◌, ◌<◌, ◌+◌, ◌*◌, ◌^◌, ⊤, ℕ, List, length, Option, Some, None}
 use Rattle.spec_states.specs.Tree.{Tree}
 use Rattle.spec_states.specs.Delta.{Delta}
 use Rattle.spec_states.specs.Kind.{kind}
-use Rattle.spec_states.specs.View.{View, filter, sorted, range, function, Parameter, matcher, order}
+use Rattle.spec_states.specs.View.{View, filter, sorted, range, function, collection, view_of, Parameter, matcher, order}
 use Rattle.gl_kernels.specs.Stands as filter_stands
 use Rattle.gl_kernels.specs.Told.{asked, change_cost}
 use Rattle.gl_kernels.specs.SortedStands as sorted_stands
@@ -11,8 +11,11 @@ use Rattle.gl_kernels.specs.SortedChanges.{fresh_len}
 use Rattle.gl_kernels.specs.Kept as range_kept
 use Rattle.gl_kernels.specs.RangeStands as range_stands
 use Rattle.gl_kernels.specs.FunctionStands as function_stands
+use Rattle.gl_kernels.specs.CollectionStands as collection_stands
+use Rattle.gl_kernels.specs.KernelFault.{KernelFault}
+use Rattle.gl_kernels.specs.KernelFault.TheVariants.{TooLong, Memory}
 use Rattle.gl_graph.specs.declared.derived.Derived.{Derived}
-use Rattle.gl_graph.specs.declared.derived.Derived.TheVariants.{Filter, Sorted, Range, Function}
+use Rattle.gl_graph.specs.declared.derived.Derived.TheVariants.{Filter, Sorted, Range, Function, Collection}
 use Rattle.gl_graph.specs.declared.derived.DerivedUndo.{DerivedUndo}
 use Rattle.gl_graph.specs.declared.derived.DerivedUndo.TheVariants as u
 
@@ -22,6 +25,7 @@ view_of_derived (Filter k) = filter k.matcher
 view_of_derived (Sorted k) = sorted k.order
 view_of_derived (Range k) = range k.bounds
 view_of_derived (Function k) = function k.func
+view_of_derived (Collection k) = collection k.kids
 
 -- it stands for these elements of its input
 abbrev pub StandsFor : Derived → List Tree → Type 0
@@ -29,6 +33,7 @@ StandsFor (Filter k) xs = filter_stands.StandsFor k xs
 StandsFor (Sorted k) xs = sorted_stands.StandsFor k xs
 StandsFor (Range k) xs = range_stands.StandsFor k xs
 StandsFor (Function k) xs = function_stands.StandsFor k xs
+StandsFor (Collection k) xs = collection_stands.StandsFor k xs
 
 -- what it is, whatever its room
 pub data Contents : Type 0 where
@@ -36,12 +41,14 @@ pub data Contents : Type 0 where
   of_sorted : sorted_stands.Contents → Contents
   of_range : range_kept.Kept → Contents
   of_function : function_stands.Contents → Contents
+  of_collection : collection_stands.Contents → Contents
 
 abbrev pub contents : Derived → Contents
 contents (Filter k) = of_filter (filter_stands.contents k)
 contents (Sorted k) = of_sorted (sorted_stands.contents k)
 contents (Range k) = of_range k
 contents (Function k) = of_function (function_stands.contents k)
+contents (Collection k) = of_collection (collection_stands.contents k)
 
 -- how much it has room for
 abbrev pub room_of : Derived → ℕ
@@ -49,6 +56,12 @@ room_of (Filter k) = k.room
 room_of (Sorted k) = k.tree.room
 room_of (Range k) = 0
 room_of (Function k) = k.room
+room_of (Collection k) = k.room
+
+-- how many elements it may show, if it goes by that
+abbrev pub limit_of : Derived → Option ℕ
+limit_of (Collection k) = Some k.limit
+limit_of other = None
 
 -- what an undo makes of it; one of another kind makes nothing of it
 abbrev pub before : DerivedUndo → Derived → Contents
@@ -56,6 +69,7 @@ before (u.Filter undo) (Filter k) = of_filter (filter_stands.before undo k)
 before (u.Sorted undo) (Sorted k) = of_sorted (sorted_stands.contents (sorted_stands.before undo k))
 before (u.Range undo) (Range k) = of_range (range_stands.before undo)
 before (u.Function undo) (Function k) = of_function (function_stands.before undo k)
+before (u.Collection undo) (Collection k) = of_collection (collection_stands.before undo k)
 before undo derived = contents derived
 
 -- the undo is of its kind, and it has what the way back needs
@@ -64,6 +78,7 @@ CanRetreat (u.Filter undo) (Filter k) = filter_stands.CanRetreat undo k
 CanRetreat (u.Sorted undo) (Sorted k) = sorted_stands.CanRetreat undo k
 CanRetreat (u.Range undo) (Range k) = ⊤
 CanRetreat (u.Function undo) (Function k) = function_stands.CanRetreat undo k
+CanRetreat (u.Collection undo) (Collection k) = collection_stands.CanRetreat undo k
 CanRetreat undo derived = ⊥
 
 -- how much it has room for once an undo was taken; a sorted list of another order has a room of its own
@@ -89,9 +104,17 @@ AsksOf (Filter k) d len old new = new ≤ old + asked d
 AsksOf (Sorted k) d len old new = IsSearched len (fresh_len d) old new
 AsksOf (Range k) d len old new = new ≡ old
 AsksOf (Function k) d len old new = new ≡ old
+AsksOf (Collection k) d len old new = new ≡ old
 
 -- and while it took another parameter, over so many elements
 abbrev pub AsksFor : Derived → Parameter → ℕ → ℕ → ℕ → Type 0
 AsksFor (Filter k) (matcher m) len old new = new ≤ old + change_cost (kind k.matcher m) k.shown
 AsksFor (Sorted k) (order keys) len old new = IsSearched len len old new
 AsksFor derived given len old new = new ≡ old
+
+-- why it doesn't follow to an input of these elements: it would show so many, which are more than it may
+abbrev pub IsOver : Derived → List Tree → KernelFault → Type 0
+IsOver (Collection k) xs (TooLong len) =
+    (k.limit < len) × (len ≡ length (view_of (collection k.kids) xs))
+IsOver derived xs (TooLong len) = ⊥
+IsOver derived xs Memory = ⊤

@@ -1,11 +1,12 @@
 -- What a graph keeps.
-use Rattle.std.specs.Prelude.{◌≡◌, ◌<◌, ◌≤◌, ⊤, ℕ, List, length, slice_get, Some, None}
+use Rattle.std.specs.Prelude.{◌≡◌, ◌<◌, ◌≤◌, ⊤, ℕ, List, length, slice_get, Option, Some, None}
 use Rattle.spec_states.specs.State.{State, dependency_order}
 use Rattle.spec_states.specs.Step.{too_long}
 use Rattle.spec_states.specs.Laws.{IsOrdered}
 use Rattle.gl_graph.specs.declared.keeps.Keeps.{Keeps}
 use Rattle.gl_graph.specs.declared.keeps.Keeps.TheVariants.{Source, Over}
 use Rattle.gl_graph.specs.declared.node.Node.{Node}
+use Rattle.gl_graph.specs.Derived as derived
 use Rattle.gl_graph.specs.Nodes.{numbers, IsPlaced, AreSettled}
 use Rattle.gl_graph.specs.Nodes as made
 
@@ -19,10 +20,18 @@ pub record Kept : Type 0 where
 abbrev pub state_of : Kept → State
 state_of k = made.state_of k.nodes k.positions
 
--- a source may have so many elements
+-- how many elements a list may have, where it goes by that
+abbrev pub limit_of : Keeps → Option ℕ
+limit_of (Source k) = Some k.limit
+limit_of (Over input d) = derived.limit_of d
+
+-- if it goes by a limit, it may have so many elements
+abbrev pub IsLimit : ℕ → Option ℕ → Type 0
+IsLimit limit None = ⊤
+IsLimit limit (Some most) = most ≡ limit
+
 abbrev pub IsLimited : ℕ → Keeps → Type 0
-IsLimited limit (Source k) = k.limit ≡ limit
-IsLimited limit (Over input d) = ⊤
+IsLimited limit keeps = IsLimit limit (limit_of keeps)
 
 -- Each list has its place, the nodes stand in the dependency order, each for what its input shows, and no list is too long.
 pub record IsGraph (limit : ℕ) (nodes : List Node) (positions : List ℕ) : Type 0 where

@@ -1,4 +1,5 @@
 pub mod Derived
+pub mod Spots
 pub mod Nodes
 pub mod Kept
 pub mod Undos

@@ -25,16 +25,6 @@ abbrev pub OnInput : (ℕ → Type 0) → Keeps → Type 0
 OnInput P (Source k) = ⊤
 OnInput P (Over input d) = P input
 
--- the number of the list that it is over
-abbrev pub input_of : Keeps → Option ℕ
-input_of (Source k) = None
-input_of (Over input d) = Some input
-
--- what its input shows; a source has none
-abbrev pub input_shown : Keeps → (ℕ → List Tree) → List Tree
-input_shown (Source k) shows = []
-input_shown (Over input d) shows = shows input
-
 -- the numbers of the nodes, in their order
 abbrev pub numbers : List Node → List ℕ
 numbers nodes = map (λ (n : Node). n.list) nodes

@@ -10,6 +10,8 @@ use Rattle.spec_states.specs.Reply.TheVariants as reply
 use Rattle.gl_source.specs.Model.{DeltaModel}
 use Rattle.gl_source.specs.declared.fault.EditFault.{EditFault}
 use Rattle.gl_source.specs.declared.fault.EditFault.TheVariants as f
+use Rattle.gl_kernels.specs.KernelFault.{KernelFault}
+use Rattle.gl_kernels.specs.KernelFault.TheVariants as k
 use Rattle.spec_states.specs.Plan.{origin as about}
 use Rattle.spec_states.specs.State.{Own, State, inputs, own_at}
 use Rattle.spec_states.specs.Shown.{shown, shown_of}
@@ -22,8 +24,8 @@ use Rattle.gl_graph.specs.declared.graph.Refused.{Refused}
 use Rattle.gl_graph.specs.declared.graph.Refused.TheVariants.{OutOfRange, TooLong, Memory}
 use Rattle.gl_graph.specs.Nodes.{own_of, numbers, shown_by, state_of, OnInput, StandsFor, IsPlaced, AreInTurn, AreSettled}
 use Rattle.gl_graph.specs.Commands.{Suits}
-use Rattle.gl_graph.specs.Graph.{IsLimited, IsGraph}
-use Rattle.gl_graph.specs.Undos.{contents, room_of, limit_of, IsUndo}
+use Rattle.gl_graph.specs.Graph.{limit_of, IsLimited, IsGraph}
+use Rattle.gl_graph.specs.Undos.{contents, room_of, IsUndo}
 use Rattle.gl_graph.specs.Waves.{IsTold, Made, contents_of, before_all, by_position, AreApart, CanAllGoBack, HaveRoomBack}
 
 -- ---- what lists are told of those before them
@@ -247,3 +249,8 @@ abbrev pub IsRefusalOf : ℕ → EditFault → Refused → Type 0
 IsRefusalOf list (f.OutOfRange index len) why = why ≡ OutOfRange index len
 IsRefusalOf list (f.TooLong len) why = why ≡ TooLong list len
 IsRefusalOf list f.Memory why = why ≡ Memory
+
+-- and that a fault of a list over another comes to
+abbrev pub IsRefusalBy : ℕ → KernelFault → Refused → Type 0
+IsRefusalBy list (k.TooLong len) why = why ≡ TooLong list len
+IsRefusalBy list k.Memory why = why ≡ Memory

@@ -22,11 +22,6 @@ abbrev pub room_of : Keeps → ℕ
 room_of (Source k) = k.room
 room_of (Over input d) = derived.room_of d
 
--- how many elements a source may have; of other lists nothing is said
-abbrev pub limit_of : Keeps → Option ℕ
-limit_of (Source k) = Some k.limit
-limit_of (Over input d) = None
-
 -- what an undo makes of a list; one of another kind makes nothing of it
 abbrev pub before : KeepsUndo → Keeps → Contents
 before (u.Source undo) (Source k) = of_source (source.before undo k) k.limit

@@ -1,6 +1,6 @@
 //! A list over one input: all that goes by its kind.
 
-ghost use Rattle.std.specs.Prelude.{◌≡◌, ◌≤◌, ◌+◌, ℕ, List, Some, length, slice_get, IfOk, OnOk, OnErr};
+ghost use Rattle.std.specs.Prelude.{◌≡◌, ◌≤◌, ◌+◌, ℕ, List, Some, length, slice_get, IfOk, IfErr, OnOk, OnErr};
 ghost use Rattle.spec_states.specs.Tree.{Tree};
 ghost use Rattle.spec_states.specs.Leads.{LeadsTo, undone};
 ghost use Rattle.spec_states.specs.Kind.{kind as kind_of};
@@ -10,14 +10,15 @@ ghost use Rattle.spec_states.specs.View.{view_of, follow_of, Parameter};
 ghost use Rattle.spec_states.specs.Wave.{parameter_of, parameter_change, view_after};
 ghost use Rattle.gl_kernels.specs.Stands as filter_stands;
 ghost use Rattle.gl_kernels.specs.Told.{change_cost};
-ghost use Rattle.gl_source.specs.Found.{found};
+ghost use Rattle.gl_graph.specs.Spots.{spotted, OnSpot};
 ghost use Rattle.gl_graph.specs.Commands.{Gives};
-ghost use Rattle.gl_graph.specs.Derived.{view_of_derived, StandsFor, contents, room_of, room_back, before, CanRetreat, IsUndo, AsksOf, AsksFor};
+ghost use Rattle.gl_graph.specs.Derived.{view_of_derived, StandsFor, contents, room_of, room_back, before, CanRetreat, IsUndo, IsOver, limit_of, AsksOf, AsksFor};
 
 use crate::command::{bounds_of, func_of, matcher_of, order_of};
+use crate::spot::{Spot, child_in, spot_in};
 use gl_kernels::{
-    Delta, Filter, FilterUndo, Find, Function, FunctionUndo, RangeKernel, RangeUndo, Sorted,
-    SortedUndo, kind,
+    Collection, CollectionUndo, Delta, Filter, FilterUndo, Function, FunctionUndo, KernelFault,
+    RangeKernel, RangeUndo, Sorted, SortedUndo, kind,
 };
 use gl_plan::{Command, Matcher, Shelf, Steps};
 use std::alloc::{AllocError, Global};
@@ -30,6 +31,7 @@ pub enum Derived {
     Sorted(Sorted),
     Range(RangeKernel),
     Function(Function),
+    Collection(Collection),
 }
 
 /// What takes such a list back to where it stood before a change.
@@ -39,6 +41,7 @@ pub enum DerivedUndo {
     Sorted(SortedUndo),
     Range(RangeUndo),
     Function(FunctionUndo),
+    Collection(CollectionUndo),
 }
 
 impl Derived {
@@ -52,19 +55,26 @@ impl Derived {
             Derived::Sorted(sorted) => sorted.len(),
             Derived::Range(range) => range.len(),
             Derived::Function(function) => function.len(),
+            Derived::Collection(collection) => collection.len(),
         }
     }
 
-    /// Where the element that is shown at a place stands, or `None` exactly where the place isn't below the length.
-    pub fn find(&self, position: usize) -> Option<Find<'_>>
-        ensures { (xs : List Tree) → StandsFor self.now xs
-            → found result xs ≡ slice_get (view_of (view_of_derived self.now) xs) position }
+    /// Where the element stands that is shown at a position, or `None` exactly where the position isn't below the length.
+    /// The list is over the input of this number.
+    pub fn find(&self, input: u32, position: usize) -> Option<Spot<'_>>
+        ensures spotted { (shows : ℕ → List Tree) → StandsFor self.now (shows input)
+            → spotted result shows
+            ≡ slice_get (view_of (view_of_derived self.now) (shows input)) position }
+        ensures on { OnSpot (λ list. list ≡ input) result }
     {
         match self {
-            Derived::Filter(filter) => filter.find(position),
-            Derived::Sorted(sorted) => sorted.find(position),
-            Derived::Range(range) => range.find(position),
-            Derived::Function(function) => function.find(position),
+            Derived::Filter(filter) => spot_in(input, filter.find(position)),
+            Derived::Sorted(sorted) => spot_in(input, sorted.find(position)),
+            Derived::Range(range) => spot_in(input, range.find(position)),
+            Derived::Function(function) => spot_in(input, function.find(position)),
+            Derived::Collection(collection) => {
+                child_in(input, collection.kids(), collection.find(position))
+            }
         }
     }
 
@@ -74,7 +84,7 @@ impl Derived {
         input: &S,
         d: &Delta,
         steps: &mut Steps<L>,
-    ) -> Result<(Delta, DerivedUndo), AllocError>
+    ) -> Result<(Delta, DerivedUndo), KernelFault>
         requires leads { LeadsTo d.now.pieces (S.items input.now) }
         requires stands { StandsFor self.old (undone d.now.pieces (S.items input.now)) }
         ensures delta { IfOk result (λ told. told.0.pieces
@@ -84,26 +94,32 @@ impl Derived {
         ensures undo { IfOk result (λ told. IsUndo told.1 self.old self.new) }
         ensures err { OnErr result (contents self.new ≡ contents self.old) }
         ensures room { OnErr result (room_of self.old ≤ room_of self.new) }
+        ensures limit { OnOk result (limit_of self.new ≡ limit_of self.old) }
+        ensures over { IfErr result (IsOver self.old (S.items input.now)) }
         ensures counted { AsksOf self.old d.now.pieces (length (S.items input.now)) steps.old
             steps.new }
     {
         match self {
-            Derived::Filter(filter) => {
-                let (out, undo) = filter.advance(input, d, steps)?;
-                Ok((out, DerivedUndo::Filter(undo)))
-            }
-            Derived::Sorted(sorted) => {
-                let (out, undo) = sorted.advance(input, d, steps)?;
-                Ok((out, DerivedUndo::Sorted(undo)))
-            }
-            Derived::Range(range) => {
-                let (out, undo) = range.advance(input, d, steps)?;
-                Ok((out, DerivedUndo::Range(undo)))
-            }
-            Derived::Function(function) => {
-                let (out, undo) = function.advance(input, d, steps)?;
-                Ok((out, DerivedUndo::Function(undo)))
-            }
+            Derived::Filter(filter) => match filter.advance(input, d, steps) {
+                Ok((out, undo)) => Ok((out, DerivedUndo::Filter(undo))),
+                Err(_) => Err(KernelFault::Memory),
+            },
+            Derived::Sorted(sorted) => match sorted.advance(input, d, steps) {
+                Ok((out, undo)) => Ok((out, DerivedUndo::Sorted(undo))),
+                Err(_) => Err(KernelFault::Memory),
+            },
+            Derived::Range(range) => match range.advance(input, d, steps) {
+                Ok((out, undo)) => Ok((out, DerivedUndo::Range(undo))),
+                Err(_) => Err(KernelFault::Memory),
+            },
+            Derived::Function(function) => match function.advance(input, d, steps) {
+                Ok((out, undo)) => Ok((out, DerivedUndo::Function(undo))),
+                Err(_) => Err(KernelFault::Memory),
+            },
+            Derived::Collection(collection) => match collection.advance(input, d, steps) {
+                Ok((out, undo)) => Ok((out, DerivedUndo::Collection(undo))),
+                Err(fault) => Err(fault),
+            },
         }
     }
 
@@ -126,6 +142,7 @@ impl Derived {
         ensures undo { IfOk result (λ told. IsUndo told.1 self.old self.new) }
         ensures err { OnErr result (contents self.new ≡ contents self.old) }
         ensures room { OnErr result (room_of self.old ≤ room_of self.new) }
+        ensures limit { OnOk result (limit_of self.new ≡ limit_of self.old) }
         ensures counted { (given : Parameter) → parameter_of command.now ≡ Some given
             → AsksFor self.old given (length (S.items input.now)) steps.old steps.new }
     {
@@ -146,6 +163,7 @@ impl Derived {
                 let (out, undo) = function.change(func_of(command).copy(alloc)?, input)?;
                 Ok((out, DerivedUndo::Function(undo)))
             }
+            Derived::Collection(_) => unreachable!(),
         }
     }
 
@@ -170,6 +188,10 @@ impl Derived {
             },
             DerivedUndo::Function(undo) => match self {
                 Derived::Function(function) => function.retreat(undo),
+                _ => unreachable!(),
+            },
+            DerivedUndo::Collection(undo) => match self {
+                Derived::Collection(collection) => collection.retreat(undo),
                 _ => unreachable!(),
             },
         }

@@ -6,21 +6,25 @@ ghost use Rattle.spec_states.specs.Leads.{LeadsTo, undone};
 ghost use Rattle.spec_states.specs.View.{follow_of};
 ghost use Rattle.spec_states.specs.Shown.{shown_of};
 ghost use Rattle.spec_states.specs.Wave.{parameter_of, parameter_change, view_after};
-ghost use Rattle.gl_source.specs.Found.{found};
+ghost use Rattle.std.specs.List.{Contains};
+ghost use Rattle.spec_states.specs.State.{inputs};
+ghost use Rattle.gl_kernels.specs.KernelFault.{KernelFault};
 ghost use Rattle.gl_graph.specs.Derived.{view_of_derived};
 ghost use Rattle.gl_graph.specs.Derived as derived_keeps;
-ghost use Rattle.gl_graph.specs.Nodes.{own_of, StandsFor, OnInput, IsPlaced, AreSettled, input_of, input_shown, shown_by};
+ghost use Rattle.gl_graph.specs.Spots.{spotted, OnSpot};
+ghost use Rattle.gl_graph.specs.Nodes.{own_of, StandsFor, OnInput, IsPlaced, AreSettled, shown_by};
 ghost use Rattle.gl_graph.specs.Commands.{Gives, Suits};
 ghost use Rattle.gl_graph.specs.Graph.{IsLimited};
 ghost use Rattle.gl_graph.specs.Undos.{contents, before, room_of, room_back, CanRetreat};
-ghost use Rattle.gl_graph.specs.Spread.{CanTurn, IsChanged, IsStep, IsStopped, IsRefusalOf};
+ghost use Rattle.gl_graph.specs.Spread.{CanTurn, IsChanged, IsStep, IsStopped, IsRefusalOf, IsRefusalBy};
 
 use crate::derived::{Derived, DerivedUndo};
 use crate::graph::Refused;
 use crate::node::Node;
 use crate::seen::see;
 use crate::source::edit_source;
-use gl_kernels::{Delta, Deltas, Find};
+use crate::spot::Spot;
+use gl_kernels::{Delta, Deltas, KernelFault};
 use gl_plan::{Command, Shelf, Steps};
 use gl_source::{EditFault, SourceList, SourceUndo};
 use std::alloc::{AllocError, Global};
@@ -41,16 +45,6 @@ pub enum KeepsUndo {
 }
 
 impl Keeps {
-    /// The number of the list that it is over; a source is over none.
-    pub fn input(&self) -> Option<u32>
-        ensures { result ≡ input_of self.now }
-    {
-        match self {
-            Keeps::Source(_) => None,
-            Keeps::Over { input, derived: _ } => Some(*input),
-        }
-    }
-
     /// How many elements the list shows.
     pub fn len(&self) -> usize
         ensures { (shows : ℕ → List Tree) → StandsFor self.now shows
@@ -62,17 +56,19 @@ impl Keeps {
         }
     }
 
-    /// Where the element that is shown at a place stands: in the list itself, or at a place of what its input shows.
-    pub fn find(&self, position: usize) -> Option<Find<'_>>
-        ensures { (shows : ℕ → List Tree) → StandsFor self.now shows
-            → found result (input_shown self.now shows) ≡ slice_get (shown_of (own_of self.now) shows) position }
+    /// Where the element stands that is shown at a position: in the list itself, or in one that it depends on. It is `None`
+    /// exactly where the position isn't below the length.
+    pub fn find(&self, position: usize) -> Option<Spot<'_>>
+        ensures spotted { (shows : ℕ → List Tree) → StandsFor self.now shows
+            → spotted result shows ≡ slice_get (shown_of (own_of self.now) shows) position }
+        ensures on { OnSpot (Contains (inputs (own_of self.now))) result }
     {
         match self {
             Keeps::Source(source) => match source.get(position) {
-                Some(value) => Some(Find::Own(value)),
+                Some(value) => Some(Spot::Own(value)),
                 None => None,
             },
-            Keeps::Over { input: _, derived } => derived.find(position),
+            Keeps::Over { input, derived } => derived.find(*input, position),
         }
     }
 
@@ -110,10 +106,10 @@ impl Keeps {
             Keeps::Source(_) => Ok(None),
             Keeps::Over { input, derived } => match deltas.get(*input) {
                 None => Ok(None),
-                Some(d) => {
-                    let (out, undo) = follow(derived, prefix, positions, *input, d, steps)?;
-                    Ok(Some((out, KeepsUndo::Over(undo))))
-                }
+                Some(d) => match follow(derived, prefix, positions, *input, d, steps) {
+                    Ok((out, undo)) => Ok(Some((out, KeepsUndo::Over(undo)))),
+                    Err(fault) => Err(refusal_by(list, fault)),
+                },
             },
         }
     }
@@ -199,6 +195,8 @@ fn change<L: Ledger>(
         (derived_keeps.contents derived.new ≡ derived_keeps.contents derived.old) }
     ensures room { OnErr result
         (derived_keeps.room_of derived.old ≤ derived_keeps.room_of derived.new) }
+    ensures limit { OnOk result
+        (derived_keeps.limit_of derived.new ≡ derived_keeps.limit_of derived.old) }
 {
     let shelf = see(prefix, positions, input);
     derived.change(alloc, command, &shelf, steps)
@@ -212,7 +210,7 @@ fn follow<L: Ledger>(
     input: u32,
     d: &Delta,
     steps: &mut Steps<L>,
-) -> Result<(Delta, DerivedUndo), AllocError>
+) -> Result<(Delta, DerivedUndo), KernelFault>
     requires settled { AreSettled prefix.now positions.now }
     requires placed { IsPlaced prefix.now positions.now input }
     requires leads { LeadsTo d.now.pieces (shown_by prefix.now positions.now input) }
@@ -228,9 +226,23 @@ fn follow<L: Ledger>(
         (derived_keeps.contents derived.new ≡ derived_keeps.contents derived.old) }
     ensures room { OnErr result
         (derived_keeps.room_of derived.old ≤ derived_keeps.room_of derived.new) }
+    ensures limit { OnOk result
+        (derived_keeps.limit_of derived.new ≡ derived_keeps.limit_of derived.old) }
+    ensures over { IfErr result
+        (derived_keeps.IsOver derived.old (shown_by prefix.now positions.now input)) }
 {
     let shelf = see(prefix, positions, input);
     derived.advance(&shelf, d, steps)
+}
+
+// Why a list that follows stops the command.
+fn refusal_by(list: u32, fault: KernelFault) -> Refused
+    ensures { IsRefusalBy list fault result }
+{
+    match fault {
+        KernelFault::TooLong { len } => Refused::TooLong { list, len },
+        KernelFault::Memory => Refused::Memory,
+    }
 }
 
 // Why the command is refused.

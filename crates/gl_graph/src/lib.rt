@@ -13,6 +13,7 @@ mod open;
 mod position;
 mod seen;
 mod source;
+mod spot;
 mod spread;
 mod start;
 #[cfg(test)]
@@ -25,3 +26,4 @@ pub use graph::{Graph, GraphUndo, Refused, Wave};
 pub use keeps::{Keeps, KeepsUndo};
 pub use node::Node;
 pub use seen::Seen;
+pub use spot::Spot;

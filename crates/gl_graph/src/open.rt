@@ -7,13 +7,13 @@ ghost use Rattle.spec_states.specs.Shown.{shown_of};
 ghost use Rattle.spec_states.specs.Opening.{seen_through};
 ghost use Rattle.gl_graph.specs.Nodes.{own_of, shown_by, StandsFor, AreSettled, IsPlaced};
 ghost use Rattle.gl_graph.specs.Graph.{IsLimited};
-ghost use Rattle.gl_graph.specs.Opening.{IsBuilt, IsOver};
+ghost use Rattle.gl_graph.specs.Opening.{IsBuilt, IsOver, IsFaultBy};
 
 use crate::derived::Derived;
 use crate::keeps::Keeps;
 use crate::node::Node;
 use crate::seen::see;
-use gl_kernels::{Filter, Function, RangeKernel, Sorted};
+use gl_kernels::{Collection, Filter, Function, KernelFault, RangeKernel, Sorted};
 use gl_plan::{ListKind, Steps, Values};
 use gl_source::{OpenFault, SourceList};
 use std::alloc::Global;
@@ -89,7 +89,24 @@ fn made<L: Ledger>(
             let function = Function::make(alloc, func.copy(alloc)?, &shelf, steps)?;
             Ok(over(*input, Derived::Function(function)))
         }
+        ListKind::Collection { input, kids } => {
+            let shelf = see(prefix, positions, *input);
+            match Collection::make(alloc, kids.copy(alloc)?, limit, &shelf, steps) {
+                Ok(collection) => Ok(over(*input, Derived::Collection(collection))),
+                Err(fault) => Err(fault_by(fault)),
+            }
+        }
         _ => unreachable!(),
+    }
+}
+
+// Why a list over another doesn't open.
+fn fault_by(fault: KernelFault) -> OpenFault
+    ensures { IsFaultBy fault result }
+{
+    match fault {
+        KernelFault::TooLong { len } => OpenFault::TooLong { len },
+        KernelFault::Memory => OpenFault::Memory,
     }
 }
 

@@ -1,12 +1,14 @@
 //! A list seen through the lists before it.
 
-ghost use Rattle.std.specs.Prelude.{◌≡◌, ◌≤◌, length, slice_get, slice_index, Some};
+ghost use Rattle.std.specs.Prelude.{◌≡◌, ◌≤◌, ◌∷◌, [], length, slice_get, slice_index, Some};
 ghost use Rattle.std.specs.Option.{option_copied};
+ghost use Rattle.gl_kernels.specs.CollectionStands.{children_at};
 ghost use Rattle.gl_graph.specs.declared.node.Node.{Node};
 ghost use Rattle.gl_graph.specs.Nodes.{shown_by, AreSettled, IsPlaced};
 
 use crate::node::Node;
-use gl_kernels::Find;
+use crate::spot::Spot;
+use gl_kernels::Kids;
 use gl_plan::{Shelf, Value};
 use std::marker::Model;
 
@@ -81,6 +83,14 @@ pub(crate) fn shown_len(prefix: &[Node], positions: &[u32], list: u32) -> usize
     node_of(prefix, positions, list).keeps.len()
 }
 
+// The child of a value at an index, if there is one.
+fn child<'a>(model: &Kids, parent: &'a Value, index: usize) -> Option<&'a Value>
+    ensures { option_copied result
+        ≡ slice_get (children_at model.now (parent.now ∷ []) 0) index }
+{
+    model.of(parent).get(index)
+}
+
 /// The element that a list shows at a place, or `None` exactly where the place isn't below the length.
 pub(crate) fn element<'a>(
     prefix: &'a [Node],
@@ -92,14 +102,15 @@ pub(crate) fn element<'a>(
     requires placed { IsPlaced prefix.now positions.now list }
     ensures { option_copied result ≡ slice_get (shown_by prefix.now positions.now list) position }
 {
-    let keeps = &node_of(prefix, positions, list).keeps;
-    match keeps.find(position) {
+    match node_of(prefix, positions, list).keeps.find(position) {
         None => None,
-        Some(Find::Own(value)) => Some(value),
-        Some(Find::Child(_, _)) => None,
-        Some(Find::Input(at)) => match keeps.input() {
-            None => None,
-            Some(input) => element(prefix, positions, input, at),
-        },
+        Some(Spot::Own(value)) => Some(value),
+        Some(Spot::Of(other, at)) => element(prefix, positions, other, at),
+        Some(Spot::Child(other, at, model, index)) => {
+            match element(prefix, positions, other, at) {
+                None => None,
+                Some(parent) => child(model, parent, index),
+            }
+        }
     }
 }

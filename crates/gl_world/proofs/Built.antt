@@ -6,7 +6,7 @@ use Rattle.spec_states.specs.ListDecl.{ListDecl}
 use Rattle.spec_states.specs.ListKind.{ListKind}
 use Rattle.spec_states.specs.ListKind.TheVariants as kinds
 use Rattle.spec_states.specs.Plan.{Plan}
-use Rattle.spec_states.specs.Built.{is_built_kind, is_built}
+use Rattle.spec_runs.specs.Built.{is_built_kind, is_built}
 use Rattle.spec_runs.proofs.Built.{built_lists}
 use Rattle.gl_graph.specs.Opening.{IsKindBuilt, AreKindsBuilt}
 
@@ -16,9 +16,9 @@ kind_built (kinds.Filter input matcher) e = tt
 kind_built (kinds.Sorted input order) e = tt
 kind_built (kinds.Range input bounds) e = tt
 kind_built (kinds.Function input func) e = tt
+kind_built (kinds.Collection input kids) e = tt
 kind_built (kinds.Unique input order) e = absurd cc
 kind_built (kinds.Grouping input order) e = absurd cc
-kind_built (kinds.Collection input kids) e = absurd cc
 kind_built (kinds.Composite members may) e = absurd cc
 kind_built (kinds.Transaction input) e = absurd cc
 kind_built (kinds.Freezable input) e = absurd cc

@@ -10,7 +10,7 @@ use Rattle.spec_states.specs.Command.{Command}
 use Rattle.spec_states.specs.Reply.{Reply}
 use Rattle.gl_delta.specs.Model.{DeltaModel}
 use Rattle.spec_states.specs.Plan.{Plan, commands_of, sections_of}
-use Rattle.spec_states.specs.Built.{is_built}
+use Rattle.spec_runs.specs.Built.{is_built}
 use Rattle.spec_states.specs.State.{State, own_at}
 use Rattle.spec_states.specs.Shown.{table_of}
 use Rattle.spec_states.specs.Laws.{IsSound}

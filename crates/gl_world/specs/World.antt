@@ -4,7 +4,7 @@ use Rattle.gl_plan.specs.Whole.{IsWhole}
 use Rattle.gl_outside.specs.declared.gate.Actor.{Actor}
 use Rattle.spec_states.specs.Reply.{Reply}
 use Rattle.spec_states.specs.Plan.{Plan}
-use Rattle.spec_states.specs.Built.{is_built}
+use Rattle.spec_runs.specs.Built.{is_built}
 use Rattle.spec_runs.specs.Entry.{taken_by}
 use Rattle.spec_runs.specs.Run.{run}
 use Rattle.spec_runs.specs.Fits.{Fits}

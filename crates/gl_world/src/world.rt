@@ -5,7 +5,7 @@ ghost use Rattle.std.specs.Option.{option_copied};
 ghost use Rattle.spec_states.specs.Opening.{opening};
 ghost use Rattle.spec_states.specs.Shown.{EachShowsItsView};
 ghost use Rattle.spec_states.specs.Step.{too_long};
-ghost use Rattle.spec_states.specs.Built.{is_built};
+ghost use Rattle.spec_runs.specs.Built.{is_built};
 ghost use Rattle.spec_runs.specs.Fits.{Fits};
 ghost use Rattle.spec_runs.specs.Run.{run, left_to, replies_at, shown_after};
 ghost use Rattle.spec_runs.specs.Telling.{listener_dependency_order};

@@ -7,7 +7,6 @@ pub mod NameFaults
 pub mod Plan
 pub mod Making
 pub mod Cycles
-pub mod Built
 pub mod PlanNames
 pub mod WellFormed
 pub mod Rows

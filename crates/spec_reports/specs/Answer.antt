@@ -11,7 +11,7 @@ use Rattle.spec_plan_texts.specs.Text.{SpellsPlan, FirstFault, SpellsCycle}
 use Rattle.spec_plan_texts.specs.Canonical.{spelled_plan}
 use Rattle.spec_states.specs.Opening.{opening}
 use Rattle.spec_states.specs.Step.{too_long as first_too_long}
-use Rattle.spec_plans.specs.Built.{is_built}
+use Rattle.spec_runs.specs.Built.{is_built}
 use Rattle.spec_runs.specs.Fits.{BadPlace, Reason, no_writer, no_section, no_proxy, empty_queue, first_bad_place}
 use Rattle.spec_reports.specs.Report.{line_feed, report, list_name}
 use Rattle.spec_reports.specs.Big.{big_plan, big_order, big_summary}

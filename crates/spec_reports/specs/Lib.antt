@@ -25,7 +25,6 @@ pub use Rattle.spec_states.specs.Shown
 pub use Rattle.spec_plans.specs.Plan
 pub use Rattle.spec_states.specs.State
 pub use Rattle.spec_runs.specs.Telling
-pub use Rattle.spec_plans.specs.Built
 pub use Rattle.spec_runs.specs.Fits
 pub use Rattle.spec_states.specs.Opening
 pub use Rattle.spec_states.specs.Step
@@ -38,3 +37,4 @@ pub use Rattle.gl_lines.specs.declared.reply.Reply
 pub use Rattle.spec_syntax.specs.Cuts
 pub use Rattle.spec_plan_texts.specs.Canonical
 pub use Rattle.spec_plan_texts.specs.Short
+pub use Rattle.spec_runs.specs.Built

@@ -17,7 +17,7 @@ use Rattle.spec_states.specs.Wave.{Deltas, delta_in}
 use Rattle.spec_runs.specs.Section.{state_after, section_deltas}
 use Rattle.spec_runs.specs.Entry.{taken_by, queued_own, queued}
 use Rattle.spec_runs.specs.Run.{run}
-use Rattle.spec_plans.specs.Built.{is_built_kind, is_built_listener, is_built}
+use Rattle.spec_runs.specs.Built.{is_built_kind, is_built_listener, is_built}
 use Rattle.spec_runs.specs.Kinds.{kind_of, KeepsKinds}
 use Rattle.spec_runs.proofs.Runs.{state_more}
 use Rattle.spec_runs.proofs.KeptKinds.{run_kinds, after_keeps, keeps_on}

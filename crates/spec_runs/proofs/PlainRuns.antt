@@ -9,7 +9,7 @@ use Rattle.gl_lines.specs.declared.plan.ListDecl.{ListDecl}
 use Rattle.gl_lines.specs.declared.plan.ListKind.{ListKind}
 use Rattle.gl_lines.specs.declared.plan.ListKind.TheVariants as kinds
 use Rattle.spec_plans.specs.Plan.{Plan}
-use Rattle.spec_plans.specs.Built.{is_built_kind, is_built}
+use Rattle.spec_runs.specs.Built.{is_built_kind, is_built}
 use Rattle.spec_states.specs.State.{Own, State, source, over, composite, transaction, freezable, proxy, own_at, opening_of}
 use Rattle.spec_states.specs.Shown.{is_held}
 use Rattle.spec_states.specs.Opening.{opening, shown_first}
@@ -40,10 +40,10 @@ opens_plain shows (kinds.Source rows) e = tt
 opens_plain shows (kinds.Filter input matcher) e = tt
 opens_plain shows (kinds.Range input bounds) e = tt
 opens_plain shows (kinds.Function input func) e = tt
-opens_plain shows (kinds.Sorted input order) e = absurd cc
-opens_plain shows (kinds.Unique input order) e = absurd cc
-opens_plain shows (kinds.Grouping input order) e = absurd cc
-opens_plain shows (kinds.Collection input kids) e = absurd cc
+opens_plain shows (kinds.Sorted input order) e = tt
+opens_plain shows (kinds.Unique input order) e = tt
+opens_plain shows (kinds.Grouping input order) e = tt
+opens_plain shows (kinds.Collection input kids) e = tt
 opens_plain shows (kinds.Composite members may) e = absurd cc
 opens_plain shows (kinds.Transaction input) e = absurd cc
 opens_plain shows (kinds.Freezable input) e = absurd cc

@@ -16,7 +16,7 @@ use Rattle.spec_states.specs.Shown.{table_of}
 use Rattle.spec_runs.specs.Telling.{Telling, listener_dependency_order}
 use Rattle.spec_runs.specs.Run.{run, left_to, replies_at, shown_after}
 use Rattle.spec_runs.specs.Fits.{first_bad_place, no_section, no_proxy, no_writer}
-use Rattle.spec_plans.specs.Built.{is_built}
+use Rattle.spec_runs.specs.Built.{is_built}
 
 -- a source with the row 1 whose lists may have two elements, and one section: addall s [2,3], add s 2, show s
 abbrev pub short : Plan

@@ -27,7 +27,6 @@ pub use Rattle.spec_order.specs.Order
 pub use Rattle.gl_lines.specs.declared.plan.ListDecl
 pub use Rattle.gl_lines.specs.declared.plan.ListKind
 pub use Rattle.spec_order.specs.DependencyOrder
-pub use Rattle.spec_plans.specs.Built
 pub use Rattle.spec_plans.specs.declared.class.ListClass
 pub use Rattle.spec_plans.specs.WellFormed
 pub use Rattle.gl_lines.specs.declared.plan.ListenerDecl

@@ -1,10 +1,10 @@
 use Rattle.std.proofs.Common.{◌≡◌, subst}
-use Rattle.std.specs.Prelude.{IfOk, OnOk}
+use Rattle.std.specs.Prelude.{IfOk, IfErr, OnOk}
 use Rattle.gl_source.specs.Model.{DeltaModel}
 use Rattle.spec_states.specs.Leads.{undone}
 use Rattle.spec_states.specs.View.{follow_of}
 use Rattle.gl_graph.specs.declared.derived.DerivedUndo.{DerivedUndo}
-use Rattle.gl_graph.specs.Derived.{view_of_derived, StandsFor}
+use Rattle.gl_graph.specs.Derived.{view_of_derived, StandsFor, IsOver}
 use Rattle.gl_graph.specs.Nodes.{shown_by}
 use Rattle.gl_graph.specs.Kept.{Kept}
 use Rattle.gl_graph.proofs.keeps.follow.Goals as goal
@@ -17,3 +17,7 @@ returns-clause-delta g c =
 pub returns-clause-stands : goal.returns-clause-stands
 returns-clause-stands g c =
     subst (λ (k : Kept). OnOk c.advance.result (StandsFor c.advance.new.self (shown_by k.prefix k.positions k.list))) c.see-shelf.ensures.seen c.advance.ensures.stands
+
+pub returns-clause-over : goal.returns-clause-over
+returns-clause-over g c =
+    subst (λ (k : Kept). IfErr c.advance.result (IsOver c.args.derived.now (shown_by k.prefix k.positions k.list))) c.see-shelf.ensures.seen c.advance.ensures.over
