@@ -30,6 +30,7 @@ fn is_built_kind(kind: &ListKind) -> bool
         ListKind::Range { .. } => true,
         ListKind::Function { .. } => true,
         ListKind::Collection { .. } => true,
+        ListKind::Composite { .. } => true,
         _ => false,
     }
 }

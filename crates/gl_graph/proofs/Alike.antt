@@ -13,7 +13,7 @@ use Rattle.gl_graph.specs.Nodes.{own_of_node, own_in, state_of, numbers, shown_b
 use Rattle.gl_graph.specs.Undos as keeps
 use Rattle.gl_graph.specs.Graph.{IsGraph}
 use Rattle.gl_graph.specs.Waves.{contents_of}
-use Rattle.gl_graph.proofs.Rooms.{own_same, stands_same, limited_same, on_input_same, on_input_more}
+use Rattle.gl_graph.proofs.Rooms.{own_same, stands_same, limited_same, on_input_same, on_input_more, among_same}
 
 -- the node of another list at the same place
 record Twin (nodes : List Node) (position : ℕ) (node : Node) : Type 0 where
@@ -82,6 +82,7 @@ turn_same a b positions e position m n list_is contents_are turn =
       within = subst (λ l. l < length positions) list_is turn.within;
       placed = subst (λ l. slice_index positions l ≡ position) list_is turn.placed;
       later = on_input_more (placed_same (take position a) (take position b) positions (numbers_prefix a b position e)) n.keeps later;
+      among = among_same m.keeps n.keeps contents_are turn.among;
     }
 
 settled_same : (a b : List Node) (positions : List ℕ) → numbers a ≡ numbers b → contents_of a ≡ contents_of b

@@ -6,13 +6,13 @@ use Rattle.std.proofs.lemmas.List.{map-append}
 use Rattle.spec_states.specs.State.{Own, State, own_at}
 use Rattle.spec_states.specs.Shown.{shown_of}
 use Rattle.gl_graph.specs.declared.node.Node.{Node}
-use Rattle.gl_graph.specs.Nodes.{own_of, numbers, shown_by, OnInput, IsPlaced, IsInTurn, AreInTurn, AreSettled, StandsFor}
+use Rattle.gl_graph.specs.Nodes.{own_of, numbers, shown_by, OnInput, AreAmong, IsPlaced, IsInTurn, AreInTurn, AreSettled, StandsFor}
 use Rattle.gl_graph.specs.Graph.{IsLimited}
 use Rattle.gl_graph.specs.Build.{IsOneMore, AreOpened}
 use Rattle.gl_graph.proofs.Shown.{order_of_settled, turn_shows}
 use Rattle.gl_graph.proofs.Prefixes.{settled_more, prefix_shows, number_at}
-use Rattle.gl_graph.proofs.Plain.{inward, each_input}
-use Rattle.spec_states.proofs.Views.{shown_local}
+use Rattle.gl_graph.proofs.Plain.{inward, among_inward, each_input}
+use Rattle.spec_states.proofs.Views.{Inward, shown_local}
 
 -- an item of a list with one more
 last_or_old : (nodes : List Node) (node other : Node) (p : ℕ) → slice_get (nodes ++ node ∷ []) p ≡ Some other
@@ -43,17 +43,18 @@ prefix_at (m ∷ nodes) node (suc p) h = ap (λ xs. m ∷ xs) (prefix_at nodes n
 
 -- the nodes with one more are in turn
 order_more : (nodes : List Node) (positions : List ℕ) (node : Node) → AreInTurn nodes positions → node.list < length positions → slice_index positions node.list ≡ length nodes
-    → OnInput (IsPlaced nodes positions) node.keeps → AreInTurn (nodes ++ node ∷ []) positions
-order_more nodes positions node dependency_order within placed later p other at = elim (last_or_old nodes node other p at) [
+    → OnInput (IsPlaced nodes positions) node.keeps → AreAmong node.keeps → AreInTurn (nodes ++ node ∷ []) positions
+order_more nodes positions node dependency_order within placed later among p other at = elim (last_or_old nodes node other p at) [
   | inl h ↦
       let turn = dependency_order p other h.1 in
       let low : p < length nodes = h.0 in
-      record { within = turn.within; placed = turn.placed; later = subst (λ xs. OnInput (IsPlaced xs positions) other.keeps) (sym (prefix_at nodes node p (omega (arith, low)))) turn.later }
+      record { within = turn.within; placed = turn.placed; later = subst (λ xs. OnInput (IsPlaced xs positions) other.keeps) (sym (prefix_at nodes node p (omega (arith, low)))) turn.later; among = turn.among }
   | inr h ↦
       let here : IsInTurn (nodes ++ node ∷ []) positions (length nodes) node = record {
         within = within;
         placed = placed;
         later = subst (λ xs. OnInput (IsPlaced xs positions) node.keeps) (sym (prefix_is nodes node)) later;
+        among = among;
       } in
       subst (λ q. IsInTurn (nodes ++ node ∷ []) positions q other) (sym h.0) (subst (λ (m : Node). IsInTurn (nodes ++ node ∷ []) positions (length nodes) m) h.1 here)
 ]
@@ -62,10 +63,10 @@ order_more nodes positions node dependency_order within placed later p other at 
 pub opened_more : (limit : ℕ) (s : State) (positions order : List ℕ) (nodes after : List Node) (list : ℕ) (own : Own) → limit ≤ 2147483647
     → AreOpened limit s positions order (length nodes) nodes → IsOneMore limit positions list own nodes after
     → list < length positions → slice_index positions list ≡ length nodes → own ≡ own_at s list
-    → ((node : Node) → own_of node.keeps ≡ own → OnInput (IsPlaced nodes positions) node.keeps)
+    → ((node : Node) → own_of node.keeps ≡ own → OnInput (IsPlaced nodes positions) node.keeps) → Inward own
     → take (suc (length nodes)) order ≡ take (length nodes) order ++ list ∷ []
     → AreOpened limit s positions order (suc (length nodes)) after
-opened_more limit s positions order nodes after list own few opened more within placed own_is inputs next =
+opened_more limit s positions order nodes after list own few opened more within placed own_is inputs own_inward next =
     subst (λ xs. AreOpened limit s positions order (suc (length nodes)) xs) (sym more.is) (record {
       order_is = map-append (λ (m : Node). m.list) nodes (node ∷ []) ∙ (ap (λ xs. xs ++ node.list ∷ []) opened.order_is ∙ (ap (λ l. take (length nodes) order ++ l ∷ []) more.list_is ∙ sym next));
       settled = settled;
@@ -91,7 +92,10 @@ opened_more limit s positions order nodes after list own few opened more within 
 
     dependency_order : AreInTurn whole positions
     dependency_order = order_more nodes positions node (order_of_settled nodes positions opened.settled) (subst (λ l. l < length positions) (sym more.list_is) within)
-        (ap (λ l. slice_index positions l) more.list_is ∙ placed) (inputs node more.own_is)
+        (ap (λ l. slice_index positions l) more.list_is ∙ placed) (inputs node more.own_is) among
+
+    among : AreAmong node.keeps
+    among = among_inward node.keeps (subst Inward (sym more.own_is) own_inward)
 
     few_view : length (shown_of (own_of node.keeps) (shown_by nodes positions)) ≤ limit
     few_view = subst (λ o. length (shown_of o (shown_by nodes positions)) ≤ limit) (sym more.own_is) more.within
@@ -116,6 +120,6 @@ opened_more limit s positions order nodes after list own few opened more within 
     few_new : length (shown_by whole positions node.list) ≤ limit
     few_new =
         let shows = turn_shows whole positions (length nodes) node dependency_order (last_at nodes node) in
-        let through = shown_local (own_of node.keeps) (inward node.keeps) (shown_by nodes positions) (shown_by whole positions)
+        let through = shown_local (own_of node.keeps) (inward node.keeps among) (shown_by nodes positions) (shown_by whole positions)
         (λ i c. same i (each_input (IsPlaced nodes positions) node.keeps i (inputs node more.own_is) c)) in
         subst (λ xs. length xs ≤ limit) (through ∙ sym shows) few_view

@@ -21,7 +21,9 @@ use Rattle.spec_states.proofs.Views.{wave_ordered, wave_order}
 use Rattle.gl_graph.specs.declared.node.Node.{Node}
 use Rattle.gl_graph.specs.Nodes.{own_of_node, numbers, state_of, IsPlaced, AreSettled}
 use Rattle.gl_graph.specs.Graph.{IsGraph}
+use Rattle.gl_graph.specs.Room.{IsNoMore}
 use Rattle.gl_graph.specs.Undos.{room_of}
+use Rattle.gl_graph.proofs.NoMore.{no_more}
 use Rattle.gl_graph.specs.Waves.{Made, by_position, undo_at, room_one, AreTold, CanAllGoBack, HaveRoomBack}
 use Rattle.gl_graph.specs.Spread.{HasBegun, IsBegun, AreInverse, HaveBack, IsSpread}
 use Rattle.gl_graph.proofs.Plain.{own_at_state, long_state}
@@ -72,8 +74,8 @@ same_room : (n : ℕ) (nodes : List Node) → HaveRoomBack [] nodes (replicate n
 same_room n nodes p a b at_a at_b =
     let both : Some a ≡ Some b = sym at_a ∙ at_b in
     let one : a ≡ b = cc in
-    subst (λ (m : Node). room_of a.keeps ≤ room_one (undo_at (replicate n None) p) m.keeps) one
-    (subst (λ u. room_of a.keeps ≤ room_one u a.keeps) (sym (no_undo n p)) (omega arith))
+    subst (λ (m : Node). IsNoMore (room_of a.keeps) (room_one (undo_at (replicate n None) p) m.keeps)) one
+    (subst (λ u. IsNoMore (room_of a.keeps) (room_one u a.keeps)) (sym (no_undo n p)) (no_more (room_of a.keeps)))
 
 pub spread_begins : (limit : ℕ) (old : List Node) (positions : List ℕ) (c : Command) (start : Option ℕ) (told : List (Option DeltaModel)) (made : Made) → IsBegun limit old positions c start
     → told ≡ replicate (length positions) None → made ≡ [] → IsSpread limit old positions c start 0 old told made

@@ -9,12 +9,13 @@ use Rattle.spec_states.specs.Shown.{shown_of}
 use Rattle.spec_states.specs.Wave.{follow}
 use Rattle.spec_states.proofs.Quiet as states
 use Rattle.gl_graph.specs.declared.keeps.Keeps.{Keeps}
-use Rattle.gl_graph.specs.declared.keeps.Keeps.TheVariants.{Source, Over}
-use Rattle.gl_graph.specs.Nodes.{own_of}
+use Rattle.gl_graph.specs.Nodes.{own_of, AreAmong}
+use Rattle.gl_graph.proofs.Plain.{inward, own_plain}
+use Rattle.gl_graph.proofs.WholeWaves.{unheld}
 
-pub follow_same : (keeps : Keeps) (shows : ℕ → List Tree) → follow (own_of keeps) shows (λ i. no_change (length (shows i))) ≡ no_change (length (shown_of (own_of keeps) shows))
-follow_same (Source k) shows = states.follow_same (own_of (Source k)) shows (λ i. no_change (length (shows i))) tt refl (λ i c. refl)
-follow_same (Over input o) shows = states.follow_same (own_of (Over input o)) shows (λ i. no_change (length (shows i))) tt refl (λ i c. refl)
+pub follow_same : (keeps : Keeps) (shows : ℕ → List Tree) → AreAmong keeps → follow (own_of keeps) shows (λ i. no_change (length (shows i))) ≡ no_change (length (shown_of (own_of keeps) shows))
+follow_same keeps shows among =
+    states.follow_same (own_of keeps) shows (λ i. no_change (length (shows i))) (inward keeps among) (unheld (own_of keeps) (own_plain keeps among)) (λ i c. refl)
 
 -- what a change that is none leads to is what it starts from
 none_applied : (n : ℕ) (xs : List Tree) → length xs ≡ n → applied (no_change n) xs ≡ xs

@@ -1,3 +1,5 @@
+pub mod Members
+pub mod NoMore
 pub mod Plain
 pub mod Shown
 pub mod Edits

@@ -70,11 +70,11 @@ next_of limit old positions c start q nodes was begun are at = record {
   turn = turn;
   own = own_of_turn old positions q was in_old (order_of_settled old positions g.settled q was in_old);
   within = (let low : was.list < length positions = turn.within in omega (arith, low, long_state old positions));
-  stands = stands_local was.keeps (shown_by old positions) (shown s) (λ i d. graph_shows limit old positions i g) (g.settled q was in_old).stands;
+  stands = stands_local was.keeps (shown_by old positions) (shown s) turn.among (λ i d. graph_shows limit old positions i g) (g.settled q was in_old).stands;
   low = λ i d. (placed_before nodes positions q i (placed i d)).1;
   below = λ i d. (placed i d).within;
   shows = λ i d. agrees (take q nodes) positions (wave s (command c)) (order_of_settled (take q nodes) positions are.settled) (wave_ordered s (command c) g.ordered)
-      (wave_plain old positions c) (long_wave old positions c)
+      (wave_plain limit old positions c g begun.suits) (long_wave old positions c)
       (λ p n found. let h = get_node_prefix nodes q p n found in are.own p n h.1 h.0) i (placed i d);
 }
   where
@@ -148,7 +148,7 @@ input_leads limit old positions c start q nodes was told begun are to next i d =
         subst (λ ps. IsDelta ps (shown s i) (shows i)) (sym (ap (λ o. delta_of o (length (shows i))) e))
         (subst (λ xs. IsDelta (no_change (length (shows i))) xs (shows i)) stays (identity_leads (shows i)))
     by_told (Some t) e =
-        let lead = graph_leads old positions c begun.graph.ordered (are.inside (told_late old positions c start q told to i t e)) in
+        let lead = graph_leads limit old positions c begun.graph begun.suits (are.inside (told_late old positions c start q told to i t e)) in
         let within : i < length positions = next.below i d in
         subst (λ ps. IsDelta ps (shown s i) (shows i)) (sym (input_told limit old positions c start q nodes was told begun to next i d))
         (subst (λ ys. IsDelta (delta_in (wave_deltas s (command c)) i) (shown s i) ys) (sym (next.shows i d)) (lead.each i (omega (arith, within, length-table_of s, long_state old positions))))
@@ -172,10 +172,10 @@ can_turn limit old positions c start q nodes was told begun are to at = record {
   can = record {
     within = on_inputs (λ i. i < length told) was.keeps (λ i d. let low : i < length positions = next.below i d in omega (arith, low, to.long));
     suits = λ same. subst (Suits c) (ap (own_at s) (sym (is_start limit old positions c start was.list begun same)) ∙ next.own) begun.suits;
-    stands = λ same. stands_local was.keeps (shown s) shows (λ i d. sym (still_shows old positions c start q nodes was told next to same i d)) next.stands;
+    stands = λ same. stands_local was.keeps (shown s) shows next.turn.among (λ i d. sym (still_shows old positions c start q nodes was told next to same i d)) next.stands;
     leads = λ other. on_inputs (λ i. LeadsTo (delta_told told shows i) (shows i)) was.keeps
         (λ i d. ends_at (delta_told told shows i) (shown s i) (shows i) (input_leads limit old positions c start q nodes was told begun are to next i d));
-    stood = λ other. stands_local was.keeps (shown s) (shown_before told shows)
+    stood = λ other. stands_local was.keeps (shown s) (shown_before told shows) next.turn.among
         (λ i d. sym (input_before limit old positions c start q nodes was told begun are to next i d)) next.stands;
   };
 }

@@ -59,6 +59,7 @@ prefix_order nodes positions n dependency_order position node is =
       within = turn.within;
       placed = turn.placed;
       later = subst (λ xs. OnInput (IsPlaced xs positions) node.keeps) (sym (take_lower nodes position n (omega (arith, lower)))) turn.later;
+      among = turn.among;
     }
 
 placed_lower : (nodes : List Node) (positions : List ℕ) (p n i : ℕ) → p ≤ n → IsPlaced (take p nodes) positions i → IsPlaced (take n nodes) positions i
@@ -85,7 +86,7 @@ prefix_shows nodes positions n list dependency_order placed = by_position (suc (
         let there : IsPlaced (take p nodes) positions j = each_input (IsPlaced (take p nodes) positions) node.keeps j (dependency_order p node found.0).later c in
         let below_p : slice_index positions j < p = (placed_before nodes positions p j there).1 in
         by_position m j (omega (arith, below, below_p)) (placed_lower nodes positions p n j (omega (arith, lower)) there) in
-        subst (λ l. before l ≡ after l) h.same (short ∙ (shown_local (own_of node.keeps) (inward node.keeps) before after inner ∙ sym long))
+        subst (λ l. before l ≡ after l) h.same (short ∙ (shown_local (own_of node.keeps) (inward node.keeps (dependency_order p node found.0).among) before after inner ∙ sym long))
 
 -- what the nodes of a graph show is what its state shows
 pub graph_shows : (limit : ℕ) (nodes : List Node) (positions : List ℕ) (list : ℕ) → IsGraph limit nodes positions → shown_by nodes positions list ≡ shown (state_of nodes positions) list
@@ -128,7 +129,7 @@ settled_more nodes positions n node dependency_order settled is stands few posit
         record { within = turn.within; there = subst (λ p. slice_get (numbers (take n nodes)) p ≡ Some other.list) (sym turn.placed) (number_at (take n nodes) position other there) } in
         record {
           turn = more position other at;
-          stands = stands_local other.keeps (shown_by (take n nodes) positions) (shown_by (take (suc n) nodes) positions)
+          stands = stands_local other.keeps (shown_by (take n nodes) positions) (shown_by (take (suc n) nodes) positions) turn.among
               (λ i c. same i (placed_lower nodes positions position n i (omega (arith, lower)) (each_input (IsPlaced (take position nodes) positions) other.keeps i turn.later c))) was.stands;
           few = subst (λ xs. length xs ≤ 2147483647) (same other.list here) was.few;
         }
@@ -143,9 +144,9 @@ settled_more nodes positions n node dependency_order settled is stands few posit
         let few_here : length (shown_of (own_of other.keeps) (shown_by (take n nodes) positions)) ≤ 2147483647 = subst (λ (m : Node). length (shown_of (own_of m.keeps) (shown_by (take n nodes) positions)) ≤ 2147483647) (sym one) few in
         record {
           turn = more position other at;
-          stands = stands_local other.keeps (shown_by (take n nodes) positions) (shown_by (take (suc n) nodes) positions) fit stands_here;
+          stands = stands_local other.keeps (shown_by (take n nodes) positions) (shown_by (take (suc n) nodes) positions) turn.among fit stands_here;
           few = subst (λ xs. length xs ≤ 2147483647)
-              (shown_local (own_of other.keeps) (inward other.keeps) (shown_by (take n nodes) positions) (shown_by (take (suc n) nodes) positions) fit ∙ sym (turn_shows (take (suc n) nodes) positions position other more at)) few_here;
+              (shown_local (own_of other.keeps) (inward other.keeps turn.among) (shown_by (take n nodes) positions) (shown_by (take (suc n) nodes) positions) fit ∙ sym (turn_shows (take (suc n) nodes) positions position other more at)) few_here;
         }
 
     by_position : (t : Bool) → ltb position n ≡ t → IsSettled (take (suc n) nodes) positions position other
@@ -174,6 +175,6 @@ agrees nodes positions s dependency_order ordered plain long own list placed = b
         let within : node.list < length s = (let low : node.list < length positions = turn.within in omega (arith, low, long)) in
         let here : shown_by nodes positions node.list ≡ shown s node.list =
         turn_shows nodes positions p node dependency_order h.is
-        ∙ (shown_local (own_of node.keeps) (inward node.keeps) (shown_by nodes positions) (shown s) inner
+        ∙ (shown_local (own_of node.keeps) (inward node.keeps turn.among) (shown_by nodes positions) (shown s) inner
         ∙ (ap (λ o. shown_of o (shown s)) (own p node h.is) ∙ sym (shown_in s ordered plain node.list within))) in
         subst (λ l. shown_by nodes positions l ≡ shown s l) h.same here

@@ -11,6 +11,8 @@ use Rattle.gl_graph.specs.Nodes as made
 use Rattle.gl_graph.specs.Undos as keeps
 use Rattle.gl_graph.specs.Graph.{Kept, IsGraph, state_of}
 use Rattle.gl_graph.specs.Waves.{Contents, by_position, AreApart, contents, contents_of, before, before_one, before_all, room_one, CanGoBack, CanAllGoBack, HaveRoomBack, HaveRoomOf, IsUndo, CanRetreat}
+use Rattle.gl_graph.specs.Room.{IsNoMore}
+use Rattle.gl_graph.proofs.NoMore.{no_more, no_more_on}
 use Rattle.gl_graph.proofs.Rooms.{before_same, retreat_same}
 use Rattle.gl_graph.proofs.Alike.{state_same, graph_same}
 
@@ -50,7 +52,7 @@ can_all_same (undo ∷ undos) (m ∷ a) (n ∷ b) e room can =
     (one_more undo m.keeps n.keeps first (room 0 m n refl refl) can.0, can_all_same undos a b rest (room_rest m n a b room) can.1)
   where
     one_more : (undo : Option KeepsUndo) (a b : Keeps) → keeps.contents a ≡ keeps.contents b
-        → keeps.room_of a ≤ keeps.room_of b → CanGoBack undo a → CanGoBack undo b
+        → IsNoMore (keeps.room_of a) (keeps.room_of b) → CanGoBack undo a → CanGoBack undo b
     one_more None a b e more can = tt
     one_more (Some undo) a b e more can = (retreat_same undo a b e more can).can
 
@@ -64,12 +66,12 @@ rooms_same (undo ∷ undos) (m ∷ a) (n ∷ b) e room can zero x y is_x is_y =
     let first : keeps.contents m.keeps ≡ keeps.contents n.keeps = cc in
     let left : m ≡ x = cc in
     let right : n ≡ y = cc in
-    subst (λ (k : Node). room_one undo k.keeps ≤ room_one undo y.keeps) left
-    (subst (λ (k : Node). room_one undo m.keeps ≤ room_one undo k.keeps) right
+    subst (λ (k : Node). IsNoMore (room_one undo k.keeps) (room_one undo y.keeps)) left
+    (subst (λ (k : Node). IsNoMore (room_one undo m.keeps) (room_one undo k.keeps)) right
     (one_room undo m.keeps n.keeps first (room 0 m n refl refl) can.0))
   where
     one_room : (undo : Option KeepsUndo) (a b : Keeps) → keeps.contents a ≡ keeps.contents b
-        → keeps.room_of a ≤ keeps.room_of b → CanGoBack undo a → room_one undo a ≤ room_one undo b
+        → IsNoMore (keeps.room_of a) (keeps.room_of b) → CanGoBack undo a → IsNoMore (room_one undo a) (room_one undo b)
     one_room None a b e more can = more
     one_room (Some undo) a b e more can = (retreat_same undo a b e more can).room
 rooms_same (undo ∷ undos) (m ∷ a) (n ∷ b) e room can (suc position) x y is_x is_y =
@@ -80,7 +82,7 @@ rooms_same (undo ∷ undos) (m ∷ a) (n ∷ b) e room can (suc position) x y is
 pub room_same : (a : List Node) → HaveRoomOf a a
 room_same a position x y is_x is_y =
     let same : x ≡ y = cc in
-    subst (λ (n : Node). keeps.room_of x.keeps ≤ keeps.room_of n.keeps) same (omega arith)
+    subst (λ (n : Node). IsNoMore (keeps.room_of x.keeps) (keeps.room_of n.keeps)) same (no_more (keeps.room_of x.keeps))
 
 -- a node at the place
 record There (nodes : List Node) (position : ℕ) : Type 0 where
@@ -102,7 +104,7 @@ pub room_on : (us vs ws : List (Option KeepsUndo)) (a b c : List Node) → numbe
     → HaveRoomBack vs b ws c → HaveRoomBack us a ws c
 room_on us vs ws a b c e h k position x z is_x is_z =
     let t = node_there a b e position x is_x in
-    omega (arith, h position x t.node is_x t.is, k position t.node z t.is is_z)
+    no_more_on _ _ _ (h position x t.node is_x t.is) (k position t.node z t.is is_z)
 
 -- graphs of the same contents are in the same state
 pub contents_same_state : (a b : Kept) → contents a ≡ contents b → state_of a ≡ state_of b

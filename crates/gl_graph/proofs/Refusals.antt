@@ -17,7 +17,7 @@ use Rattle.gl_source.specs.Model.{DeltaModel}
 use Rattle.gl_graph.specs.declared.keeps.KeepsUndo.{KeepsUndo}
 use Rattle.gl_graph.specs.declared.graph.Refused.{Refused}
 use Rattle.gl_graph.specs.declared.graph.Refused.TheVariants.{OutOfRange, TooLong, Memory}
-use Rattle.gl_graph.specs.Nodes.{own_of, numbers, state_of, shown_by}
+use Rattle.gl_graph.specs.Nodes.{own_of, numbers, state_of, shown_by, AreInTurn}
 use Rattle.gl_graph.specs.Waves.{IsRefused}
 use Rattle.gl_graph.specs.Spread.{IsBegun, AreInverse, AreToldTo, IsLong, IsStopped, IsOver}
 use Rattle.gl_graph.proofs.Plain.{long_state, own_plain, state_plain, state_sound, kept_local}
@@ -83,14 +83,14 @@ stop_refused limit old positions c start q nodes was told (TooLong number len) b
       let mine : own_at s (about c) ≡ own_of was.keeps = ap (own_at s) (sym same) ∙ next.own in
       let inside : refusal s c ≡ None = ap (λ o. refused_by o c) mine ∙ first.1.0 in
       let keeps : own_at w was.list ≡ kept_after c shows (own_of was.keeps) =
-      own_of_start s c was.list next.within same ∙ (ap (kept_after c (shown s)) next.own ∙ kept_local c (own_of was.keeps) (shown s) shows (own_plain was.keeps)) in
+      own_of_start s c was.list next.within same ∙ (ap (kept_after c (shown s)) next.own ∙ kept_local c (own_of was.keeps) (shown s) shows (own_plain was.keeps next.turn.among)) in
       long (kept_after c shows (own_of was.keeps)) keeps (kept_after_inputs c shows (own_of was.keeps)) inside first.1.1
   | inr later ↦
       let other : was.list ≢ about c = isnt_start limit old positions c start was.list begun later.0 in
       let r = later.1.0 in
       let inside : refusal s c ≡ None = are.inside (told_late old positions c start q told to r.input r.d r.told) in
       let keeps : own_at w was.list ≡ own_of was.keeps =
-      own_of_other s c was.list (state_sound old positions begun.graph.ordered) next.within other begun.suits (state_plain old positions was.list) ∙ next.own in
+      own_of_other s c was.list (state_sound old positions dependency_order begun.graph.ordered) next.within other begun.suits (state_plain old positions was.list dependency_order) ∙ next.own in
       long (own_of was.keeps) keeps refl inside later.1.1
 ]
   where
@@ -100,6 +100,9 @@ stop_refused limit old positions c start q nodes was told (TooLong number len) b
     w : State
     w = wave s (command c)
 
+    dependency_order : AreInTurn old positions
+    dependency_order = order_of_settled old positions begun.graph.settled
+
     shows : ℕ → List Tree
     shows = shown_by (take q nodes) positions
 
@@ -107,10 +110,10 @@ stop_refused limit old positions c start q nodes was told (TooLong number len) b
         → unmoved limit s c ≡ Some (reply.TooLong number len)
     long own keeps same inside is =
         let after : was.list < length w = omega (arith, next.within, long_wave old positions c, long_state old positions) in
-        let plain : Inward own = subst Inward keeps (wave_plain old positions c was.list) in
+        let plain : Inward own = subst Inward keeps (wave_plain limit old positions c begun.graph begun.suits was.list) in
         let now : shown_of own shows ≡ shown w was.list =
         shown_local own plain shows (shown w) (λ i d. next.shows i (subst (λ is. Contains is i) same d))
-        ∙ (ap (λ o. shown_of o (shown w)) (sym keeps) ∙ sym (shown_in w (wave_ordered s (command c) begun.graph.ordered) (wave_plain old positions c) was.list after)) in
+        ∙ (ap (λ o. shown_of o (shown w)) (sym keeps) ∙ sym (shown_in w (wave_ordered s (command c) begun.graph.ordered) (wave_plain limit old positions c begun.graph begun.suits) was.list after)) in
         let len_is : len ≡ length (shown w was.list) = is.len_is ∙ ap length now in
         let more : limit < length (shown w was.list) = omega (arith, is.past, len_is) in
         long_refused limit old positions c start q nodes was begun are next inside more

@@ -3,20 +3,26 @@ use Rattle.std.proofs.Common.{◌≡◌, ◌∙◌, ℕ, ◌≤◌, List, refl, 
 use Rattle.spec_states.specs.Tree.{Tree}
 use Rattle.gl_source.proofs.Play.{can_play_more}
 use Rattle.gl_kernels.proofs.SortedRooms as sorted
+use Rattle.std.proofs.lemmas.List.Elements.{All-weaker}
+use Rattle.gl_composite.specs.Stands as composite_stands
+use Rattle.gl_composite.specs.Kept as composite_kept
+use Rattle.gl_composite.specs.declared.composite.Step.{Step}
+use Rattle.gl_composite.specs.declared.composite.Step.TheVariants.{Attached, Detached, Advanced}
 use Rattle.gl_graph.specs.declared.derived.Derived.{Derived}
 use Rattle.gl_graph.specs.declared.derived.Derived.TheVariants as d
 use Rattle.gl_graph.specs.declared.derived.DerivedUndo.{DerivedUndo}
 use Rattle.gl_graph.specs.declared.derived.DerivedUndo.TheVariants as du
 use Rattle.gl_graph.specs.declared.keeps.Keeps.{Keeps}
-use Rattle.gl_graph.specs.declared.keeps.Keeps.TheVariants.{Source, Over}
+use Rattle.gl_graph.specs.declared.keeps.Keeps.TheVariants.{Source, Over, Composite}
 use Rattle.gl_graph.specs.declared.keeps.KeepsUndo.{KeepsUndo}
 use Rattle.gl_graph.specs.declared.keeps.KeepsUndo.TheVariants as u
 use Rattle.gl_graph.specs.Derived as derived
 use Rattle.gl_graph.specs.Derived.{of_filter, of_sorted, of_range, of_function, of_collection, view_of_derived}
 use Rattle.spec_states.specs.State.{over}
-use Rattle.gl_graph.specs.Nodes.{own_of, OnInput, StandsFor}
+use Rattle.gl_graph.specs.Nodes.{own_of, OnInput, AreAmong, StandsFor}
 use Rattle.gl_graph.specs.Graph.{IsLimit, IsLimited}
-use Rattle.gl_graph.specs.Undos.{Contents, of_source, of_over, contents, room_of, room_back, before, CanRetreat}
+use Rattle.gl_graph.specs.Room.{Room, IsNoMore}
+use Rattle.gl_graph.specs.Undos.{Contents, of_source, of_over, of_composite, contents, room_of, room_back, before, CanRetreat}
 
 -- the list over one input of these contents that has so much room
 abbrev derived_with : ℕ → derived.Contents → Derived
@@ -122,17 +128,23 @@ derived_in_more (du.Collection undo) r s (of_sorted c) h can = absurd can
 derived_in_more (du.Collection undo) r s (of_range c) h can = absurd can
 derived_in_more (du.Collection undo) r s (of_function c) h can = absurd can
 
+-- the composite of these contents that has so much room
+abbrev composite_in : Room → composite_stands.Contents → composite_kept.Kept
+composite_in room c = record { limit = c.limit; lists = c.lists; lens = c.lens; list_room = room.members; room = room.kept }
+
 -- what a list keeps of these contents that has so much room
-abbrev with_room : ℕ → Contents → Keeps
-with_room room (of_source values limit) = Source (record { values = values; limit = limit; room = room })
-with_room room (of_over input c) = Over input (derived_with room c)
+abbrev with_room : Room → Contents → Keeps
+with_room room (of_source values limit) = Source (record { values = values; limit = limit; room = room.kept })
+with_room room (of_over input c) = Over input (derived_with room.kept c)
+with_room room (of_composite needed c) = Composite needed (composite_in room c)
 
 its_own : (k : Keeps) → with_room (room_of k) (contents k) ≡ k
 its_own (Source k) = refl
 its_own (Over input o) = ap (Over input) (derived_own o)
+its_own (Composite needed k) = refl
 
 -- what holds whatever the room holds of all lists of the same contents
-carried : (P : Keeps → Type 0) → ((r s : ℕ) (c : Contents) → P (with_room r c) → P (with_room s c)) → (a b : Keeps)
+carried : (P : Keeps → Type 0) → ((r s : Room) (c : Contents) → P (with_room r c) → P (with_room s c)) → (a b : Keeps)
     → contents a ≡ contents b → P a → P b
 carried P any a b e h =
     let here : P (with_room (room_of a) (contents a)) = subst P (sym (its_own a)) h in
@@ -142,31 +154,35 @@ carried P any a b e h =
 pub own_same : (a b : Keeps) → contents a ≡ contents b → own_of a ≡ own_of b
 own_same a b e = carried (λ k. own_of a ≡ own_of k) any a b e refl
   where
-    any : (r s : ℕ) (c : Contents) → own_of a ≡ own_of (with_room r c) → own_of a ≡ own_of (with_room s c)
+    any : (r s : Room) (c : Contents) → own_of a ≡ own_of (with_room r c) → own_of a ≡ own_of (with_room s c)
     any r s (of_source values limit) h = h
-    any r s (of_over input c) h = h ∙ ap (over input) (derived_view r s c)
+    any r s (of_over input c) h = h ∙ ap (over input) (derived_view r.kept s.kept c)
+    any r s (of_composite needed c) h = h
 
 pub stands_same : (shows : ℕ → List Tree) (a b : Keeps) → contents a ≡ contents b → StandsFor a shows
     → StandsFor b shows
 stands_same shows a b e h = carried (λ k. StandsFor k shows) any a b e h
   where
-    any : (r s : ℕ) (c : Contents) → StandsFor (with_room r c) shows → StandsFor (with_room s c) shows
+    any : (r s : Room) (c : Contents) → StandsFor (with_room r c) shows → StandsFor (with_room s c) shows
     any r s (of_source values limit) h = h
-    any r s (of_over input c) h = derived_stands (shows input) r s c h
+    any r s (of_over input c) h = derived_stands (shows input) r.kept s.kept c h
+    any r s (of_composite needed c) h = h
 
 pub limited_same : (limit : ℕ) (a b : Keeps) → contents a ≡ contents b → IsLimited limit a → IsLimited limit b
 limited_same limit a b e h = carried (λ k. IsLimited limit k) any a b e h
   where
-    any : (r s : ℕ) (c : Contents) → IsLimited limit (with_room r c) → IsLimited limit (with_room s c)
+    any : (r s : Room) (c : Contents) → IsLimited limit (with_room r c) → IsLimited limit (with_room s c)
     any r s (of_source values most) h = h
-    any r s (of_over input c) h = subst (IsLimit limit) (derived_limit r s c) h
+    any r s (of_over input c) h = subst (IsLimit limit) (derived_limit r.kept s.kept c) h
+    any r s (of_composite needed c) h = h
 
 pub on_input_same : (P : ℕ → Type 0) (a b : Keeps) → contents a ≡ contents b → OnInput P a → OnInput P b
 on_input_same P a b e h = carried (λ k. OnInput P k) any a b e h
   where
-    any : (r s : ℕ) (c : Contents) → OnInput P (with_room r c) → OnInput P (with_room s c)
+    any : (r s : Room) (c : Contents) → OnInput P (with_room r c) → OnInput P (with_room s c)
     any r s (of_source values limit) h = h
     any r s (of_over input c) h = h
+    any r s (of_composite needed c) h = h
 
 -- an undo makes the same of lists of the same contents
 pub before_same : (undo : KeepsUndo) (a b : Keeps) → contents a ≡ contents b → before undo a ≡ before undo b
@@ -179,31 +195,65 @@ before_same undo a b e = carried (λ k. before undo a ≡ before undo k) (λ r s
     same_contents input r s (of_function c) = refl
     same_contents input r s (of_collection c) = refl
 
-    any : (undo : KeepsUndo) (r s : ℕ) (c : Contents) → before undo (with_room r c) ≡ before undo (with_room s c)
+    same_step : (step : Step) (needed : List ℕ) (r s : Room) (c : composite_stands.Contents) → composite_stands.stepped step (composite_in r c) ≡ composite_stands.stepped step (composite_in s c)
+    same_step (Attached at) needed r s c = refl
+    same_step (Detached at list len) needed r s c = refl
+    same_step (Advanced log) needed r s c = refl
+
+    any : (undo : KeepsUndo) (r s : Room) (c : Contents) → before undo (with_room r c) ≡ before undo (with_room s c)
     any (u.Source undo) r s (of_source values limit) = refl
-    any (u.Source undo) r s (of_over input c) = same_contents input r s c
+    any (u.Source undo) r s (of_over input c) = same_contents input r.kept s.kept c
+    any (u.Source undo) r s (of_composite needed c) = refl
     any (u.Over undo) r s (of_source values limit) = refl
-    any (u.Over undo) r s (of_over input c) = ap (of_over input) (derived_before undo r s c)
+    any (u.Over undo) r s (of_over input c) = ap (of_over input) (derived_before undo r.kept s.kept c)
+    any (u.Over undo) r s (of_composite needed c) = refl
+    any (u.Composite undo) r s (of_source values limit) = refl
+    any (u.Composite undo) r s (of_over input c) = same_contents input r.kept s.kept c
+    any (u.Composite undo) r s (of_composite needed c) = ap (of_composite needed) (same_step undo.step needed r s c)
 
 -- an undo can be taken of the one list as of the other, and leaves no less room there
 pub record CanAlso (undo : KeepsUndo) (a b : Keeps) : Type 0 where
   pub can : CanRetreat undo b
-  pub room : room_back undo a ≤ room_back undo b
+  pub room : IsNoMore (room_back undo a) (room_back undo b)
 
-in_more : (undo : KeepsUndo) (r s : ℕ) (c : Contents) → r ≤ s → CanRetreat undo (with_room r c)
+step_in_more : (step : Step) (r s : Room) (c : composite_stands.Contents) → IsNoMore r s → composite_stands.CanStep step (composite_in r c)
+    → composite_stands.CanStep step (composite_in s c)
+step_in_more (Attached at) r s c h can = can
+step_in_more (Detached at list len) r s c h can = (can.0, omega (arith, can.1, h.members), record { fits = omega (arith, can.2.fits, h.kept); few = can.2.few })
+step_in_more (Advanced log) r s c h can = can_play_more _ r.kept s.kept log.items c.lens h.kept can
+
+in_more : (undo : KeepsUndo) (r s : Room) (c : Contents) → IsNoMore r s → CanRetreat undo (with_room r c)
     → CanAlso undo (with_room r c) (with_room s c)
 in_more (u.Source undo) r s (of_source values limit) h can = record {
-  can = record { within = can.within; can = can_play_more _ r s undo.log.items values h can.can };
-  room = h;
+  can = record { within = can.within; can = can_play_more _ r.kept s.kept undo.log.items values h.kept can.can };
+  room = record { kept = h.kept; members = omega arith };
 }
 in_more (u.Over undo) r s (of_over input c) h can =
-    let more = derived_in_more undo r s c h can in
-    record { can = more.can; room = more.room }
+    let more = derived_in_more undo r.kept s.kept c h.kept can in
+    record { can = more.can; room = record { kept = more.room; members = omega arith } }
+in_more (u.Composite undo) r s (of_composite needed c) h can = record {
+  can = record {
+    within = stepped_within undo.step r s c can.within;
+    can = step_in_more undo.step r s c h can.can;
+  };
+  room = h;
+}
+  where
+    stepped_within : (step : Step) (r s : Room) (c : composite_stands.Contents)
+        → composite_kept.IsWithin (composite_stands.stepped step (composite_in r c)).limit (composite_stands.stepped step (composite_in r c)).lists (composite_stands.stepped step (composite_in r c)).lens
+        → composite_kept.IsWithin (composite_stands.stepped step (composite_in s c)).limit (composite_stands.stepped step (composite_in s c)).lists (composite_stands.stepped step (composite_in s c)).lens
+    stepped_within (Attached at) r s c h = h
+    stepped_within (Detached at list len) r s c h = h
+    stepped_within (Advanced log) r s c h = h
 in_more (u.Source undo) r s (of_over input c) h can = absurd can
+in_more (u.Source undo) r s (of_composite needed c) h can = absurd can
 in_more (u.Over undo) r s (of_source values limit) h can = absurd can
+in_more (u.Over undo) r s (of_composite needed c) h can = absurd can
+in_more (u.Composite undo) r s (of_source values limit) h can = absurd can
+in_more (u.Composite undo) r s (of_over input c) h can = absurd can
 
 -- what can go back can do so in more room
-pub retreat_same : (undo : KeepsUndo) (a b : Keeps) → contents a ≡ contents b → room_of a ≤ room_of b
+pub retreat_same : (undo : KeepsUndo) (a b : Keeps) → contents a ≡ contents b → IsNoMore (room_of a) (room_of b)
     → CanRetreat undo a → CanAlso undo a b
 retreat_same undo a b e more can =
     let here : CanRetreat undo (with_room (room_of a) (contents a)) = subst (λ k. CanRetreat undo k) (sym (its_own a)) can in
@@ -217,3 +267,13 @@ retreat_same undo a b e more can =
 pub on_input_more : {P Q : ℕ → Type 0} → ((i : ℕ) → P i → Q i) → (k : Keeps) → OnInput P k → OnInput Q k
 on_input_more f (Source k) h = h
 on_input_more f (Over input o) h = f input h
+on_input_more {P} {Q} f (Composite needed k) h = All-weaker P Q f needed h
+
+-- the members of a composite go by its contents
+pub among_same : (a b : Keeps) → contents a ≡ contents b → AreAmong a → AreAmong b
+among_same a b e h = carried AreAmong any a b e h
+  where
+    any : (r s : Room) (c : Contents) → AreAmong (with_room r c) → AreAmong (with_room s c)
+    any r s (of_source values limit) h = h
+    any r s (of_over input c) h = h
+    any r s (of_composite needed c) h = h

@@ -7,8 +7,10 @@ use Rattle.spec_states.specs.State.{inputs}
 use Rattle.gl_graph.specs.declared.keeps.Keeps.{Keeps}
 use Rattle.gl_graph.specs.declared.node.Node.{Node}
 use Rattle.gl_graph.specs.declared.keeps.KeepsUndo.{KeepsUndo}
-use Rattle.gl_graph.specs.Nodes.{own_of, numbers, OnInput, IsPlaced, IsInTurn, AreInTurn}
+use Rattle.gl_graph.specs.Nodes.{own_of, numbers, OnInput, AreAmong, IsPlaced, IsInTurn, AreInTurn}
+use Rattle.gl_graph.specs.Room.{IsNoMore}
 use Rattle.gl_graph.specs.Undos.{contents, room_of}
+use Rattle.gl_graph.proofs.NoMore.{no_more_on}
 use Rattle.gl_graph.specs.Waves.{before_one, before_all, room_one, undo_at, CanGoBack, CanAllGoBack, HaveRoomBack}
 use Rattle.gl_graph.specs.Spread.{IsSetAt}
 use Rattle.gl_graph.proofs.Plain.{each_input, on_inputs}
@@ -60,8 +62,8 @@ placed_by nodes others positions n list same placed = record {
 
 -- the nodes are still in turn
 pub set_order : (nodes others : List Node) (positions : List ℕ) (q : ℕ) (was now : Node) → IsSetAt q nodes others was now → inputs (own_of now.keeps) ≡ inputs (own_of was.keeps)
-    → AreInTurn nodes positions → AreInTurn others positions
-set_order nodes others positions q was now set input dependency_order p n at = by_position (eqb p q) refl
+    → AreAmong now.keeps → AreInTurn nodes positions → AreInTurn others positions
+set_order nodes others positions q was now set input among dependency_order p n at = by_position (eqb p q) refl
   where
     same : numbers others ≡ numbers nodes
     same = ap numbers set.is ∙ set_numbers nodes q was now set.there set.list
@@ -76,7 +78,7 @@ set_order nodes others positions q was now set input dependency_order p n at = b
     there : p ≢ q → IsInTurn others positions p n
     there other =
         let turn = dependency_order p n (sym (set_there nodes q p now other) ∙ found) in
-        record { within = turn.within; placed = turn.placed; later = later n.keeps n.keeps refl turn.later }
+        record { within = turn.within; placed = turn.placed; later = later n.keeps n.keeps refl turn.later; among = turn.among }
 
     here : p ≡ q → IsInTurn others positions p n
     here e =
@@ -87,6 +89,7 @@ set_order nodes others positions q was now set input dependency_order p n at = b
           within = subst (λ l. l < length positions) (sym set.list) turn.within;
           placed = ap (slice_index positions) set.list ∙ turn.placed;
           later = later was.keeps now.keeps input turn.later;
+          among = among;
         })
 
     by_position : (t : Bool) → eqb p q ≡ t → IsInTurn others positions p n
@@ -117,23 +120,23 @@ can_set (v ∷ undos) (n ∷ nodes) (suc q) undo now h all = (all.0, can_set und
 
 -- no list has less room than its undo leaves, once one keeps something else and has its undo
 pub room_set : (old nodes : List Node) (undos : List (Option KeepsUndo)) (q : ℕ) (was now : Node) (undo : Option KeepsUndo)
-    → slice_get undos q ≡ Some None → slice_get nodes q ≡ Some was → room_of was.keeps ≤ room_one undo now.keeps → HaveRoomBack [] old undos nodes
+    → slice_get undos q ≡ Some None → slice_get nodes q ≡ Some was → IsNoMore (room_of was.keeps) (room_one undo now.keeps) → HaveRoomBack [] old undos nodes
     → HaveRoomBack [] old (slice_set undos q undo) (slice_set nodes q now)
 room_set old nodes undos q was now undo waits is more room p a b at_old at_new = by_position (eqb p q) refl
   where
-    this : p ≡ q → room_of a.keeps ≤ room_one (undo_at (slice_set undos q undo) p) b.keeps
+    this : p ≡ q → IsNoMore (room_of a.keeps) (room_one (undo_at (slice_set undos q undo) p) b.keeps)
     this e =
         let both : Some now ≡ Some b = sym (set_here nodes q was now is) ∙ (ap (slice_get (slice_set nodes q now)) (sym e) ∙ at_new) in
         let one : now ≡ b = cc in
         let none : undo_at undos p ≡ None = ap (undo_at undos) e ∙ undo_none undos q waits in
         let put : undo_at (slice_set undos q undo) p ≡ undo = ap (undo_at (slice_set undos q undo)) e ∙ undo_here undos q undo waits in
-        let before : room_of a.keeps ≤ room_of was.keeps = subst (λ u. room_of a.keeps ≤ room_one u was.keeps) none (room p a was at_old (ap (slice_get nodes) e ∙ is)) in
-        let after : room_of a.keeps ≤ room_one undo now.keeps = omega (arith, before, more) in
-        subst (λ (m : Node). room_of a.keeps ≤ room_one (undo_at (slice_set undos q undo) p) m.keeps) one
-        (subst (λ u. room_of a.keeps ≤ room_one u now.keeps) (sym put) after)
+        let before : IsNoMore (room_of a.keeps) (room_of was.keeps) = subst (λ u. IsNoMore (room_of a.keeps) (room_one u was.keeps)) none (room p a was at_old (ap (slice_get nodes) e ∙ is)) in
+        let after : IsNoMore (room_of a.keeps) (room_one undo now.keeps) = no_more_on _ _ _ before more in
+        subst (λ (m : Node). IsNoMore (room_of a.keeps) (room_one (undo_at (slice_set undos q undo) p) m.keeps)) one
+        (subst (λ u. IsNoMore (room_of a.keeps) (room_one u now.keeps)) (sym put) after)
 
-    by_position : (t : Bool) → eqb p q ≡ t → room_of a.keeps ≤ room_one (undo_at (slice_set undos q undo) p) b.keeps
+    by_position : (t : Bool) → eqb p q ≡ t → IsNoMore (room_of a.keeps) (room_one (undo_at (slice_set undos q undo) p) b.keeps)
     by_position true e = this (eqb-true p q e)
     by_position false e =
         let h = eqb-false p q e in
-        subst (λ u. room_of a.keeps ≤ room_one u b.keeps) (sym (undo_there undos q p undo h)) (room p a b at_old (sym (set_there nodes q p now h) ∙ at_new))
+        subst (λ u. IsNoMore (room_of a.keeps) (room_one u b.keeps)) (sym (undo_there undos q p undo h)) (room p a b at_old (sym (set_there nodes q p now h) ∙ at_new))

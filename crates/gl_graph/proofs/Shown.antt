@@ -97,7 +97,7 @@ turn_shows nodes positions position node dependency_order is =
     let turn = dependency_order position node is in
     let long : length (nothing_shown s) ≡ length positions = length-map {B = List Tree} s (λ own. []) ∙ length-map-range_with_len (own_in nodes positions) 0 (length positions) in
     let number : slice_get (numbers nodes) position ≡ Some node.list = slice_get-map (λ (n : Node). n.list) nodes position ∙ ap (λ o. option_map (λ (n : Node). n.list) o) is in
-    settled_is [] (λ list. inputs (own_at s list)) (λ list shows. shown_of (own_at s list) shows) (λ list f g same. shown_local (own_at s list) (state_inward nodes positions list) f g same)
+    settled_is [] (λ list. inputs (own_at s list)) (λ list shows. shown_of (own_at s list) shows) (λ list f g same. shown_local (own_at s list) (state_inward nodes positions dependency_order list) f g same)
     (nothing_shown s) [] (numbers nodes) node.list (follows nodes positions dependency_order) (member_at (numbers nodes) position node.list number) (omega (arith, turn.within, long))
     ∙ ap (λ o. shown_of o (shown_by nodes positions)) (own_of_turn nodes positions position node is turn)
 

@@ -13,7 +13,7 @@ use Rattle.spec_states.specs.Laws.{IsSound}
 use Rattle.spec_states.specs.Shown.{shown_of, shown}
 use Rattle.spec_states.specs.Wave.{command, first_delta, kept_after, wave, wave_deltas, delta_in, follow}
 use Rattle.spec_states.specs.Step.{refusal, refused_by}
-use Rattle.spec_states.proofs.Views.{shown_local, shown_in, wave_ordered, kept_after_inputs}
+use Rattle.spec_states.proofs.Views.{Inward, shown_local, shown_in, wave_ordered, kept_after_inputs}
 use Rattle.gl_graph.specs.declared.keeps.Keeps.{Keeps}
 use Rattle.gl_graph.specs.declared.keeps.Keeps.TheVariants.{Source, Over}
 use Rattle.gl_graph.specs.declared.node.Node.{Node}
@@ -23,7 +23,9 @@ use Rattle.gl_graph.specs.Graph.{limit_of, IsLimit, IsLimited}
 use Rattle.gl_graph.specs.Undos.{IsUndo}
 use Rattle.gl_graph.specs.Waves.{IsTold}
 use Rattle.gl_graph.specs.Spread.{delta_told, shown_before, HasBegun, IsBegun, AreInverse, AreToldTo, IsSetAt, IsStep}
-use Rattle.gl_graph.proofs.Plain.{inward, own_plain, long_state, state_plain, state_inward, state_sound, each_input, follow_local, first_local, stands_local, kept_local}
+use Rattle.gl_graph.specs.Commands.{Suits}
+use Rattle.gl_graph.proofs.Shown.{order_of_settled}
+use Rattle.gl_graph.proofs.Plain.{inward, among_inward, own_plain, long_state, state_plain, state_inward, state_sound, each_input, follow_local, first_local, stands_local, kept_local}
 use Rattle.gl_graph.proofs.Prefixes.{settled_more, number_at}
 use Rattle.gl_graph.proofs.Identities.{follow_same}
 use Rattle.gl_graph.proofs.WholeWaves.{delta_of_start, delta_of_other, own_of_start, own_of_other, wave_plain}
@@ -59,13 +61,13 @@ on_by limit old positions c start q nodes was now told done begun are to next st
         on = record {
           inputs_are = ap inputs t.own_is ∙ kept_after_inputs c shows (own_of was.keeps);
           limit = t.limit;
-          own = t.own_is ∙ (kept_local c (own_of was.keeps) shows (shown s) (own_plain was.keeps)
+          own = t.own_is ∙ (kept_local c (own_of was.keeps) shows (shown s) (own_plain was.keeps next.turn.among)
               ∙ (ap (kept_after c (shown s)) (sym next.own) ∙ sym (own_of_start s c was.list next.within same)));
           stands = t.stands;
           inside = λ e. none;
         };
         told = t.told
-            ∙ (first_local c was.keeps shows (shown s) (λ i d. still_shows old positions c start q nodes was told next to h.0 i d)
+            ∙ (first_local c was.keeps shows (shown s) next.turn.among (subst (Suits c) mine begun.suits) (λ i d. still_shows old positions c start q nodes was told next to h.0 i d)
             ∙ (ap (λ o. first_delta c o (shown s)) (sym next.own) ∙ sym (delta_of_start s c was.list sound next.within same begun.suits)));
         undo = t.undo;
         none = none;
@@ -80,16 +82,16 @@ on_by limit old positions c start q nodes was now told done begun are to next st
         on = record {
           inputs_are = ap inputs t.own_is;
           limit = t.limit;
-          own = t.own_is ∙ (sym next.own ∙ sym (own_of_other s c was.list sound next.within other begun.suits (state_plain old positions was.list)));
+          own = t.own_is ∙ (sym next.own ∙ sym (own_of_other s c was.list sound next.within other begun.suits (state_plain old positions was.list dependency_order)));
           stands = t.stands;
           inside = λ e. absurd (h.0 e);
         };
         told = t.told
-            ∙ (follow_local was.keeps (shown_before told shows) (shown s) (delta_told told shows) (delta_in (wave_deltas s (command c)))
+            ∙ (follow_local was.keeps (shown_before told shows) (shown s) (delta_told told shows) (delta_in (wave_deltas s (command c))) next.turn.among
             (λ i d. input_before limit old positions c start q nodes was told begun are to next i d)
             (λ i d. input_told limit old positions c start q nodes was told begun to next i d)
             ∙ (ap (λ o. follow o (shown s) (delta_in (wave_deltas s (command c)))) (sym next.own)
-            ∙ sym (delta_of_other s c was.list sound next.within other begun.suits (state_plain old positions was.list))));
+            ∙ sym (delta_of_other s c was.list sound next.within other begun.suits (state_plain old positions was.list dependency_order))));
         undo = t.undo;
         none = are.inside late;
         late = begun_later positions start q late;
@@ -100,7 +102,10 @@ on_by limit old positions c start q nodes was now told done begun are to next st
     s = state_of old positions
 
     sound : IsSound (state_of old positions)
-    sound = state_sound old positions begun.graph.ordered
+    sound = state_sound old positions dependency_order begun.graph.ordered
+
+    dependency_order : AreInTurn old positions
+    dependency_order = order_of_settled old positions begun.graph.settled
 
     shows : ℕ → List Tree
     shows = shown_by (take q nodes) positions
@@ -121,20 +126,20 @@ still_by limit old positions c start q nodes was now told begun to next step = r
   on = record {
     inputs_are = ap (λ k. inputs (own_of k)) keeps_is;
     limit = ap limit_of keeps_is;
-    own = ap own_of keeps_is ∙ (sym next.own ∙ sym (own_of_other s c was.list sound next.within other begun.suits (state_plain old positions was.list)));
+    own = ap own_of keeps_is ∙ (sym next.own ∙ sym (own_of_other s c was.list sound next.within other begun.suits (state_plain old positions was.list dependency_order)));
     stands = subst (λ k. StandsFor k (shown_by (take q nodes) positions)) (sym keeps_is)
-        (stands_local was.keeps (shown s) (shown_by (take q nodes) positions) (λ i d. sym (next.shows i d ∙ stays i d)) next.stands);
+        (stands_local was.keeps (shown s) (shown_by (take q nodes) positions) next.turn.among (λ i d. sym (next.shows i d ∙ stays i d)) next.stands);
     inside = λ e. absurd (step.0 e);
   };
-  told = delta_of_other s c was.list sound next.within other begun.suits (state_plain old positions was.list)
+  told = delta_of_other s c was.list sound next.within other begun.suits (state_plain old positions was.list dependency_order)
       ∙ (ap (λ o. follow o (shown s) (delta_in (wave_deltas s (command c)))) next.own
-      ∙ (follow_local was.keeps (shown s) (shown s) (delta_in (wave_deltas s (command c))) (λ i. no_change (length (shown s i))) (λ i d. refl) quiet
-      ∙ (follow_same was.keeps (shown s)
-      ∙ ap (λ xs. no_change (length xs)) (ap (λ o. shown_of o (shown s)) (sym next.own) ∙ sym (shown_in s begun.graph.ordered (state_inward old positions) was.list next.within)))));
-  same = shown_in w (wave_ordered s (command c) begun.graph.ordered) (wave_plain old positions c) was.list after
-      ∙ (ap (λ o. shown_of o (shown w)) (own_of_other s c was.list sound next.within other begun.suits (state_plain old positions was.list) ∙ next.own)
-      ∙ (shown_local (own_of was.keeps) (inward was.keeps) (shown w) (shown s) stays
-      ∙ (ap (λ o. shown_of o (shown s)) (sym next.own) ∙ sym (shown_in s begun.graph.ordered (state_inward old positions) was.list next.within))));
+      ∙ (follow_local was.keeps (shown s) (shown s) (delta_in (wave_deltas s (command c))) (λ i. no_change (length (shown s i))) next.turn.among (λ i d. refl) quiet
+      ∙ (follow_same was.keeps (shown s) next.turn.among
+      ∙ ap (λ xs. no_change (length xs)) (ap (λ o. shown_of o (shown s)) (sym next.own) ∙ sym (shown_in s begun.graph.ordered (state_inward old positions dependency_order) was.list next.within)))));
+  same = shown_in w (wave_ordered s (command c) begun.graph.ordered) (wave_plain limit old positions c begun.graph begun.suits) was.list after
+      ∙ (ap (λ o. shown_of o (shown w)) (own_of_other s c was.list sound next.within other begun.suits (state_plain old positions was.list dependency_order) ∙ next.own)
+      ∙ (shown_local (own_of was.keeps) (inward was.keeps next.turn.among) (shown w) (shown s) stays
+      ∙ (ap (λ o. shown_of o (shown s)) (sym next.own) ∙ sym (shown_in s begun.graph.ordered (state_inward old positions dependency_order) was.list next.within))));
 }
   where
     s : State
@@ -144,7 +149,10 @@ still_by limit old positions c start q nodes was now told begun to next step = r
     w = wave s (command c)
 
     sound : IsSound (state_of old positions)
-    sound = state_sound old positions begun.graph.ordered
+    sound = state_sound old positions dependency_order begun.graph.ordered
+
+    dependency_order : AreInTurn old positions
+    dependency_order = order_of_settled old positions begun.graph.settled
 
     other : was.list ≢ about c
     other = isnt_start limit old positions c start was.list begun step.0
@@ -164,6 +172,12 @@ still_by limit old positions c start q nodes was now told begun to next step = r
     quiet : (i : ℕ) → Contains (inputs (own_of was.keeps)) i → delta_in (wave_deltas s (command c)) i ≡ no_change (length (shown s i))
     quiet i d = subst (IsTold (length (shown s i)) (delta_in (wave_deltas s (command c)) i)) (untold i d) (to.each i (next.below i d) (next.low i d))
 
+-- its members are still among what it depends on
+now_inward : (limit : ℕ) (old : List Node) (positions : List ℕ) (c : Command) (start : Option ℕ) (q : ℕ) (nodes : List Node) (was now : Node) → IsBegun limit old positions c start
+    → IsOn old positions c start q nodes was now → Inward (own_of now.keeps)
+now_inward limit old positions c start q nodes was now begun on =
+    subst Inward (sym on.own) (wave_plain limit old positions c begun.graph begun.suits was.list)
+
 -- what it shows
 pub on_shows : (limit : ℕ) (old : List Node) (positions : List ℕ) (c : Command) (start : Option ℕ) (q : ℕ) (nodes : List Node) (was now : Node) → IsBegun limit old positions c start → IsNext old positions c q nodes was
     → IsOn old positions c start q nodes was now → shown_of (own_of now.keeps) (shown_by (take q nodes) positions) ≡ shown (wave (state_of old positions) (command c)) was.list
@@ -171,8 +185,8 @@ on_shows limit old positions c start q nodes was now begun next on =
     let s : State = state_of old positions in
     let w : State = wave s (command c) in
     let after : was.list < length w = omega (arith, next.within, long_wave old positions c, long_state old positions) in
-    shown_local (own_of now.keeps) (inward now.keeps) (shown_by (take q nodes) positions) (shown w) (λ i d. next.shows i (subst (λ is. Contains is i) on.inputs_are d))
-    ∙ (ap (λ o. shown_of o (shown w)) on.own ∙ sym (shown_in w (wave_ordered s (command c) begun.graph.ordered) (wave_plain old positions c) was.list after))
+    shown_local (own_of now.keeps) (now_inward limit old positions c start q nodes was now begun on) (shown_by (take q nodes) positions) (shown w) (λ i d. next.shows i (subst (λ is. Contains is i) on.inputs_are d))
+    ∙ (ap (λ o. shown_of o (shown w)) on.own ∙ sym (shown_in w (wave_ordered s (command c) begun.graph.ordered) (wave_plain limit old positions c begun.graph begun.suits) was.list after))
 
 limited_by : (limit : ℕ) (k m : Keeps) → limit_of m ≡ limit_of k → IsLimited limit k → IsLimited limit m
 limited_by limit k m e h = subst (IsLimit limit) (sym e) h
@@ -218,7 +232,8 @@ inverse_more limit old positions c start q nodes others was now begun are next s
     there p other = ap (λ xs. slice_get xs p) set.is ∙ set_there nodes q p now other
 
     dependency_order : AreInTurn others positions
-    dependency_order = set_order nodes others positions q was now set on.inputs_are are.dependency_order
+    dependency_order = set_order nodes others positions q was now set on.inputs_are
+        (among_inward now.keeps (now_inward limit old positions c start q nodes was now begun on)) are.dependency_order
 
     now_at : (p : ℕ) (n : Node) → p ≡ q → slice_get others p ≡ Some n → now ≡ n
     now_at p n e at = let both : Some now ≡ Some n = sym here ∙ (ap (slice_get others) (sym e) ∙ at) in cc

@@ -34,7 +34,8 @@ use Rattle.gl_graph.specs.Nodes.{own_of_node, own_in, state_of, numbers, shown_b
 use Rattle.gl_graph.specs.Opening.{IsBuilt, IsKindBuilt, AreKindsBuilt}
 use Rattle.gl_graph.specs.Positions.{ArePositions}
 use Rattle.gl_graph.specs.Build.{IsOneMore, IsFault, AreOpened, AreReady, AreOpen, IsReason, opened_lists}
-use Rattle.gl_graph.proofs.Plain.{own_at_state, on_inputs}
+use Rattle.std.proofs.lemmas.List.Elements.{Contains-append_left}
+use Rattle.gl_graph.proofs.Plain.{own_at_state, on_inputs, all_of}
 use Rattle.gl_graph.proofs.Shown.{order_of_settled}
 use Rattle.gl_graph.proofs.Prefixes.{node_of, agrees}
 use Rattle.gl_graph.proofs.Built.{opened_more}
@@ -48,9 +49,10 @@ built_of P (kinds.Sorted input order) h f = f input (Contains-here input [] inpu
 built_of P (kinds.Range input bounds) h f = f input (Contains-here input [] input refl)
 built_of P (kinds.Function input func) h f = f input (Contains-here input [] input refl)
 built_of P (kinds.Collection input kids) h f = f input (Contains-here input [] input refl)
+built_of P (kinds.Composite members may) h f = all_of P (members ++ may) f
 built_of P other h f = absurd h
 
--- lists of the kinds that are built are sources and lists over one input
+-- the members of a composite are among what it depends on
 seen_inward : (kind : ListKind) → IsKindBuilt kind → Inward (seen_through kind)
 seen_inward (kinds.Source rows) h = tt
 seen_inward (kinds.Filter input matcher) h = tt
@@ -58,6 +60,8 @@ seen_inward (kinds.Sorted input order) h = tt
 seen_inward (kinds.Range input bounds) h = tt
 seen_inward (kinds.Function input func) h = tt
 seen_inward (kinds.Collection input kids) h = tt
+seen_inward (kinds.Composite members may) h =
+    all_of (λ member. Contains (members ++ may) member) members (λ i c. Contains-append_left members may i c)
 seen_inward other h = absurd h
 
 seen_opening : (shows : ℕ → List Tree) (kind : ListKind) → IsKindBuilt kind → opening_of shows kind ≡ seen_through kind
@@ -67,6 +71,7 @@ seen_opening shows (kinds.Sorted input order) h = refl
 seen_opening shows (kinds.Range input bounds) h = refl
 seen_opening shows (kinds.Function input func) h = refl
 seen_opening shows (kinds.Collection input kids) h = refl
+seen_opening shows (kinds.Composite members may) h = refl
 seen_opening shows other h = absurd h
 
 built_rest : (d : ListDecl) (lists : List ListDecl) → AreKindsBuilt (d ∷ lists) → AreKindsBuilt lists
@@ -195,6 +200,7 @@ next_opened limit lists positions order nodes after k list d ready opened here t
     (subst (λ m. AreOpened limit s positions order m nodes) (sym long) opened) more
     (omega (arith, below, index, ready.long)) (placed ∙ sym long) (sym (own_opened lists list d there))
     (λ node own. on_inputs (IsPlaced nodes positions) node.keeps (λ i c. next_inputs limit lists positions order nodes k list d ready opened.order_is here there i (subst (λ o. Contains (inputs o) i) own c)))
+    (seen_inward d.kind (ready.built list d there))
     (subst (λ m. take (suc m) order ≡ take m order ++ list ∷ []) (sym long) (take_next order k list here)) in
     subst (λ m. AreOpened limit s positions order (suc m) after) long result
 

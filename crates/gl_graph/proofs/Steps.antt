@@ -14,7 +14,9 @@ use Rattle.spec_states.specs.Plan.{origin as about}
 use Rattle.spec_states.specs.State.{own_at}
 use Rattle.gl_graph.specs.Commands.{Suits}
 use Rattle.gl_graph.specs.Graph.{IsGraph}
+use Rattle.gl_graph.specs.Room.{IsNoMore}
 use Rattle.gl_graph.specs.Undos.{contents, room_of}
+use Rattle.gl_graph.proofs.NoMore.{no_more}
 use Rattle.gl_graph.specs.Waves.{Made, by_position, AreApart, IsRefused, before_one, room_one, CanGoBack}
 use Rattle.gl_graph.specs.Spread.{HasBegun, IsTriedAt, IsSetAt, CanTurnAt, IsPut, IsOver, IsBegun, IsSpread, LeadBack, HaveBack}
 use Rattle.gl_graph.proofs.Plain.{long_state, on_inputs}
@@ -29,7 +31,7 @@ use Rattle.gl_graph.proofs.Ends.{shown_few, nodes_few, start_low, spread_begins}
 
 -- what leads back still does, once the node at a place keeps something else and has its undo
 back_more : (old nodes others : List Node) (undos : List (Option KeepsUndo)) (q : ℕ) (was now : Node) (undo : Option KeepsUndo) → LeadBack old nodes undos → IsSetAt q nodes others was now
-    → slice_get undos q ≡ Some None → before_one undo now.keeps ≡ contents was.keeps → CanGoBack undo now.keeps → room_of was.keeps ≤ room_one undo now.keeps
+    → slice_get undos q ≡ Some None → before_one undo now.keeps ≡ contents was.keeps → CanGoBack undo now.keeps → IsNoMore (room_of was.keeps) (room_one undo now.keeps)
     → LeadBack old others (slice_set undos q undo)
 back_more old nodes others undos q was now undo lead set waits back can room = subst (λ ns. LeadBack old ns (slice_set undos q undo)) (sym set.is) (record {
   numbers_are = set_numbers nodes q was now set.there set.list ∙ lead.numbers_are;
@@ -48,7 +50,7 @@ made_more nodes others q was now made undo set =
     ap (λ n. by_position n (made ++ (q, undo) ∷ [])) (long_set nodes others q was now set) ∙ placed_last (replicate (length nodes) None) made (q, undo)
 
 have_more : (old nodes others : List Node) (made : Made) (q : ℕ) (was now : Node) (undo : KeepsUndo) → HaveBack old nodes made → IsSetAt q nodes others was now
-    → slice_get (by_position (length nodes) made) q ≡ Some None → before_one (Some undo) now.keeps ≡ contents was.keeps → CanGoBack (Some undo) now.keeps → room_of was.keeps ≤ room_one (Some undo) now.keeps
+    → slice_get (by_position (length nodes) made) q ≡ Some None → before_one (Some undo) now.keeps ≡ contents was.keeps → CanGoBack (Some undo) now.keeps → IsNoMore (room_of was.keeps) (room_one (Some undo) now.keeps)
     → HaveBack old others (made ++ (q, undo) ∷ [])
 have_more old nodes others made q was now undo have set waits back can room = record {
   lead = subst (LeadBack old others) (sym (made_more nodes others q was now made undo set))
@@ -59,7 +61,7 @@ have_more old nodes others made q was now undo have set waits back can room = re
 
 -- the same where it has no undo
 have_same : (old nodes others : List Node) (made : Made) (q : ℕ) (was now : Node) → HaveBack old nodes made → IsSetAt q nodes others was now
-    → slice_get (by_position (length nodes) made) q ≡ Some None → contents now.keeps ≡ contents was.keeps → room_of was.keeps ≤ room_of now.keeps → HaveBack old others made
+    → slice_get (by_position (length nodes) made) q ≡ Some None → contents now.keeps ≡ contents was.keeps → IsNoMore (room_of was.keeps) (room_of now.keeps) → HaveBack old others made
 have_same old nodes others made q was now have set waits same room = record {
   lead = subst (λ n. LeadBack old others (by_position n made)) (sym (long_set nodes others q was now set))
       (subst (LeadBack old others) (set_again (by_position (length nodes) made) q None waits)
@@ -108,7 +110,7 @@ none_more limit old positions c start q nodes others told made within tried h =
       inverted = inverse_more limit old positions c start q nodes others was now h.begun h.inverted next tried.set still.on few;
       told_to = told_still limit old positions c start q nodes was told h.begun h.told_to next still.told still.same;
       back = have_same old nodes others made q was now h.back tried.set waits (ap contents tried.tried.ok.1.same)
-          (subst (λ k. room_of was.keeps ≤ room_of k) (sym tried.tried.ok.1.same) (omega arith));
+          (subst (λ k. IsNoMore (room_of was.keeps) (room_of k)) (sym tried.tried.ok.1.same) (no_more (room_of was.keeps)));
       waiting = waits_same nodes others made q was now tried.set h.waiting;
     }
 

@@ -7,7 +7,9 @@ use Rattle.std.proofs.lemmas.Option.{slice_get-get_or, slice_get_within}
 use Rattle.gl_graph.specs.declared.node.Node.{Node}
 use Rattle.gl_graph.specs.declared.keeps.KeepsUndo.{KeepsUndo}
 use Rattle.gl_graph.specs.Nodes.{numbers}
+use Rattle.gl_graph.specs.Room.{IsNoMore}
 use Rattle.gl_graph.specs.Undos as keeps
+use Rattle.gl_graph.proofs.NoMore.{no_more}
 use Rattle.gl_graph.specs.Waves.{Made, put_undo, by_position, undo_at, AreApartFrom, AreApart, contents_of, before_one, before_all, room_one, CanGoBack, CanAllGoBack, HaveRoomBack}
 use Rattle.gl_graph.specs.Backs.{CanGoBackAt, IsOneBack, IsBackAt}
 
@@ -152,23 +154,23 @@ pub room_back : (undos : List (Option KeepsUndo)) (undo : KeepsUndo) (q : ℕ) (
     → IsBackAt (Some undo) q old new → HaveRoomBack (slice_set undos q (Some undo)) old undos new
 room_back undos undo q old new waits back p x y is_x is_y = by_position (eqb p q) refl
   where
-    this : p ≡ q → room_one (undo_at (slice_set undos q (Some undo)) p) x.keeps ≤ room_one (undo_at undos p) y.keeps
+    this : p ≡ q → IsNoMore (room_one (undo_at (slice_set undos q (Some undo)) p) x.keeps) (room_one (undo_at undos p) y.keeps)
     this e =
         let left : undo_at (slice_set undos q (Some undo)) p ≡ Some undo = ap (undo_at (slice_set undos q (Some undo))) e ∙ undo_here undos q (Some undo) waits in
         let none : undo_at undos p ≡ None = ap (undo_at undos) e ∙ undo_none undos q waits in
         let at_x : slice_get old q ≡ Some x = ap (slice_get old) (sym e) ∙ is_x in
         let at_y : slice_get new q ≡ Some y = ap (slice_get new) (sym e) ∙ is_y in
-        subst (λ u. room_one u x.keeps ≤ room_one (undo_at undos p) y.keeps) (sym left)
-        (subst (λ u. room_one (Some undo) x.keeps ≤ room_one u y.keeps) (sym none) (back.this x y at_x at_y).room)
+        subst (λ u. IsNoMore (room_one u x.keeps) (room_one (undo_at undos p) y.keeps)) (sym left)
+        (subst (λ u. IsNoMore (room_one (Some undo) x.keeps) (room_one u y.keeps)) (sym none) (back.this x y at_x at_y).room)
 
-    other : p ≢ q → room_one (undo_at (slice_set undos q (Some undo)) p) x.keeps ≤ room_one (undo_at undos p) y.keeps
+    other : p ≢ q → IsNoMore (room_one (undo_at (slice_set undos q (Some undo)) p) x.keeps) (room_one (undo_at undos p) y.keeps)
     other h =
         let both : Some x ≡ Some y = sym is_x ∙ (sym (back.others p h) ∙ is_y) in
         let same : x ≡ y = cc in
-        subst (λ u. room_one u x.keeps ≤ room_one (undo_at undos p) y.keeps) (sym (undo_there undos q p (Some undo) h))
-        (subst (λ (n : Node). room_one (undo_at undos p) x.keeps ≤ room_one (undo_at undos p) n.keeps) same (omega arith))
+        subst (λ u. IsNoMore (room_one u x.keeps) (room_one (undo_at undos p) y.keeps)) (sym (undo_there undos q p (Some undo) h))
+        (subst (λ (n : Node). IsNoMore (room_one (undo_at undos p) x.keeps) (room_one (undo_at undos p) n.keeps)) same (no_more (room_one (undo_at undos p) x.keeps)))
 
-    by_position : (t : Bool) → eqb p q ≡ t → room_one (undo_at (slice_set undos q (Some undo)) p) x.keeps ≤ room_one (undo_at undos p) y.keeps
+    by_position : (t : Bool) → eqb p q ≡ t → IsNoMore (room_one (undo_at (slice_set undos q (Some undo)) p) x.keeps) (room_one (undo_at undos p) y.keeps)
     by_position true e = this (eqb-true p q e)
     by_position false e = other (eqb-false p q e)
 
@@ -187,7 +189,7 @@ no_undo (suc n) (suc p) = no_undo n p
 
 pub none_room : (n : ℕ) (undos : List (Option KeepsUndo)) (a b : List Node) → HaveRoomBack undos a (replicate n None) b → HaveRoomBack undos a [] b
 none_room n undos a b h p x y is_x is_y =
-    subst (λ u. room_one (undo_at undos p) x.keeps ≤ room_one u y.keeps) (no_undo n p) (h p x y is_x is_y)
+    subst (λ u. IsNoMore (room_one (undo_at undos p) x.keeps) (room_one u y.keeps)) (no_undo n p) (h p x y is_x is_y)
 
 -- without undos nothing changes
 pub none_back : (n : ℕ) (nodes : List Node) → before_all (replicate n None) nodes ≡ contents_of nodes
@@ -222,7 +224,7 @@ can_here undo known position nodes n e value within can =
 pub back_here : (undo : Option KeepsUndo) (known : KeepsUndo) (position : ℕ) (nodes : List Node) (n m : Node)
     → undo ≡ Some known → n ≡ slice_index_or nodes position n → position < length nodes
     → m.list ≡ n.list → keeps.contents m.keeps ≡ keeps.before known n.keeps
-    → keeps.room_back known n.keeps ≤ keeps.room_of m.keeps → IsBackAt undo position nodes (slice_set nodes position m)
+    → IsNoMore (keeps.room_back known n.keeps) (keeps.room_of m.keeps) → IsBackAt undo position nodes (slice_set nodes position m)
 back_here undo known position nodes n m e value within list_is keeps_is room = record {
   long = length-set nodes position m;
   others = λ p other. get_other nodes position p m other;
@@ -232,7 +234,7 @@ back_here undo known position nodes n m e value within list_is keeps_is room = r
       let new : Some m ≡ Some b = sym (get_set nodes position m within) ∙ is_b in
       let old_is : n ≡ a = cc in
       let new_is : m ≡ b = cc in
-      let here : IsOneBack undo n m = record { list_is = list_is; keeps_is = keeps_is ∙ ap (λ o. before_one o n.keeps) (sym e); room = subst (λ o. room_one o n.keeps ≤ keeps.room_of m.keeps) (sym e) room } in
+      let here : IsOneBack undo n m = record { list_is = list_is; keeps_is = keeps_is ∙ ap (λ o. before_one o n.keeps) (sym e); room = subst (λ o. IsNoMore (room_one o n.keeps) (keeps.room_of m.keeps)) (sym e) room } in
       subst (λ x. IsOneBack undo a x) new_is (subst (λ x. IsOneBack undo x m) old_is here));
 }
 

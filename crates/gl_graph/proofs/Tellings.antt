@@ -97,7 +97,7 @@ told_put limit old positions c start q nodes was now told after done begun to ne
     l = was.list
 
     lead : IsDelta (delta_in (wave_deltas s (command c)) l) (shown s l) (shown (wave s (command c)) l)
-    lead = (graph_leads old positions c begun.graph.ordered on.none).each l (omega (arith, next.within, length-table_of s))
+    lead = (graph_leads limit old positions c begun.graph begun.suits on.none).each l (omega (arith, next.within, length-table_of s))
 
     here : slice_index_or (slice_set told l (Some done.0)) l None ≡ Some done.0
     here = put_here told l (Some done.0) (omega (arith, next.within, to.long, long_state old positions))

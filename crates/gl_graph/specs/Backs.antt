@@ -2,6 +2,7 @@
 use Rattle.std.specs.Prelude.{◌≡◌, ◌≤◌, ℕ, List, length, slice_get, Option, Some}
 use Rattle.gl_graph.specs.declared.node.Node.{Node}
 use Rattle.gl_graph.specs.declared.keeps.KeepsUndo.{KeepsUndo}
+use Rattle.gl_graph.specs.Room.{IsNoMore}
 use Rattle.gl_graph.specs.Undos as keeps
 use Rattle.gl_graph.specs.Waves.{before_one, room_one, CanGoBack}
 
@@ -14,7 +15,7 @@ CanGoBackAt undo position nodes =
 pub record IsOneBack (undo : Option KeepsUndo) (old new : Node) : Type 0 where
   pub list_is : new.list ≡ old.list
   pub keeps_is : keeps.contents new.keeps ≡ before_one undo old.keeps
-  pub room : room_one undo old.keeps ≤ keeps.room_of new.keeps
+  pub room : IsNoMore (room_one undo old.keeps) (keeps.room_of new.keeps)
 
 -- the node at a place, if there is one, has gone back, and the others are as before
 pub record IsBackAt (undo : Option KeepsUndo) (position : ℕ) (old new : List Node) : Type 0 where

@@ -1,5 +1,6 @@
 -- Which commands suit which lists, and the edits of sources that they come to.
 use Rattle.std.specs.Prelude.{◌≡◌, ◌<◌, ◌≤◌, ⊤, ℕ, [], ◌∷◌, List, length, Option, None, Some}
+use Rattle.std.specs.List.{Contains}
 use Rattle.spec_states.specs.Tree.{Tree}
 use Rattle.spec_states.specs.Command.{Command}
 use Rattle.spec_states.specs.Command.TheVariants as c
@@ -9,7 +10,7 @@ use Rattle.gl_source.specs.declared.edit.Edit.TheVariants as e
 use Rattle.gl_source.specs.declared.fault.EditFault.{EditFault}
 use Rattle.gl_source.specs.declared.fault.EditFault.TheVariants.{OutOfRange, TooLong, Memory}
 use Rattle.spec_states.specs.View.{View, filter, sorted, unique, grouping, range, function, collection, Parameter, matcher, order, bounds, func}
-use Rattle.spec_states.specs.State.{Own, source, over}
+use Rattle.spec_states.specs.State.{Own, source, over, composite}
 use Rattle.spec_states.specs.Step.{refused_by}
 use Rattle.spec_states.specs.Wave.{parameter_of, edited}
 
@@ -50,10 +51,23 @@ Gives (range old) given = IsBounds given
 Gives (function old) given = IsFunc given
 Gives (collection path) given = ⊥
 
+-- the command attaches or detaches a member
+abbrev pub IsMembership : Command → Type 0
+IsMembership (c.Attach list member) = ⊤
+IsMembership (c.Detach list index) = ⊤
+IsMembership other = ⊥
+
+-- and a member that it attaches is among these
+abbrev pub IsMembershipOf : List ℕ → Command → Type 0
+IsMembershipOf needed (c.Attach list member) = Contains needed member
+IsMembershipOf needed (c.Detach list index) = ⊤
+IsMembershipOf needed other = ⊥
+
 -- it is one for a list that keeps this
 abbrev pub Suits : Command → Own → Type 0
 Suits c (source contents) = IsEdit c
 Suits c (over input view) = Gives view (parameter_of c)
+Suits c (composite needed members) = IsMembershipOf needed c
 Suits c other = ⊥
 
 -- the edit that such a command comes to

@@ -4,7 +4,7 @@ use Rattle.spec_states.specs.State.{State, dependency_order}
 use Rattle.spec_states.specs.Step.{too_long}
 use Rattle.spec_states.specs.Laws.{IsOrdered}
 use Rattle.gl_graph.specs.declared.keeps.Keeps.{Keeps}
-use Rattle.gl_graph.specs.declared.keeps.Keeps.TheVariants.{Source, Over}
+use Rattle.gl_graph.specs.declared.keeps.Keeps.TheVariants.{Source, Over, Composite}
 use Rattle.gl_graph.specs.declared.node.Node.{Node}
 use Rattle.gl_graph.specs.Derived as derived
 use Rattle.gl_graph.specs.Nodes.{numbers, IsPlaced, AreSettled}
@@ -24,6 +24,7 @@ state_of k = made.state_of k.nodes k.positions
 abbrev pub limit_of : Keeps → Option ℕ
 limit_of (Source k) = Some k.limit
 limit_of (Over input d) = derived.limit_of d
+limit_of (Composite needed k) = Some k.limit
 
 -- if it goes by a limit, it may have so many elements
 abbrev pub IsLimit : ℕ → Option ℕ → Type 0

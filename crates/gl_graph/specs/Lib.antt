@@ -2,7 +2,9 @@ pub mod Derived
 pub mod Spots
 pub mod Nodes
 pub mod Kept
+pub mod Room
 pub mod Undos
+pub mod Members
 pub mod Commands
 pub mod Graph
 pub mod Opening

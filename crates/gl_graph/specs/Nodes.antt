@@ -2,10 +2,12 @@
 use Rattle.std.specs.Prelude.{◌≡◌, ◌<◌, ◌≤◌, ⊤, ℕ, List, [], length, map, take, slice_get, slice_index, Option, Some, None}
 use Rattle.std.specs.List.{range_with_len}
 use Rattle.spec_states.specs.Tree.{Tree}
-use Rattle.spec_states.specs.State.{Own, State, source, over}
+use Rattle.std.specs.List.{All, Contains}
+use Rattle.spec_states.specs.State.{Own, State, source, over, composite}
 use Rattle.spec_states.specs.Shown.{nothing_shown, settled, shows_in}
 use Rattle.gl_graph.specs.declared.keeps.Keeps.{Keeps}
-use Rattle.gl_graph.specs.declared.keeps.Keeps.TheVariants.{Source, Over}
+use Rattle.gl_graph.specs.declared.keeps.Keeps.TheVariants.{Source, Over, Composite}
+use Rattle.gl_composite.specs.Stands as composite_stands
 use Rattle.gl_graph.specs.declared.node.Node.{Node}
 use Rattle.gl_graph.specs.Derived.{view_of_derived}
 use Rattle.gl_graph.specs.Derived as derived
@@ -14,16 +16,25 @@ use Rattle.gl_graph.specs.Derived as derived
 abbrev pub own_of : Keeps → Own
 own_of (Source k) = source k.values
 own_of (Over input d) = over input (view_of_derived d)
+own_of (Composite needed k) = composite needed k.lists
 
--- the list stands for what its input shows
+-- the list stands for what its inputs show
 abbrev pub StandsFor : Keeps → (ℕ → List Tree) → Type 0
 StandsFor (Source k) shows = ⊤
 StandsFor (Over input d) shows = derived.StandsFor d (shows input)
+StandsFor (Composite needed k) shows = composite_stands.StandsFor k shows
 
--- said of the input of a list, if it has one
+-- said of each list that a list depends on
 abbrev pub OnInput : (ℕ → Type 0) → Keeps → Type 0
 OnInput P (Source k) = ⊤
 OnInput P (Over input d) = P input
+OnInput P (Composite needed k) = All P needed
+
+-- the members of a composite are among these
+abbrev pub AreAmong : Keeps → Type 0
+AreAmong (Source k) = ⊤
+AreAmong (Over input d) = ⊤
+AreAmong (Composite needed k) = All (λ list. Contains needed list) k.lists
 
 -- the numbers of the nodes, in their order
 abbrev pub numbers : List Node → List ℕ
@@ -54,12 +65,13 @@ pub record IsPlaced (nodes : List Node) (positions : List ℕ) (list : ℕ) : Ty
   pub within : list < length positions
   pub there : slice_get (numbers nodes) (slice_index positions list) ≡ Some list
 
--- the node stands at its place, after the list that it follows
+-- the node stands at its place, after the lists that it follows
 pub record IsInTurn (nodes : List Node) (positions : List ℕ) (position : ℕ) (node : Node) : Type 0
   where
     pub within : node.list < length positions
     pub placed : slice_index positions node.list ≡ position
     pub later : OnInput (IsPlaced (take position nodes) positions) node.keeps
+    pub among : AreAmong node.keeps
 
 -- every node does
 abbrev pub AreInTurn : List Node → List ℕ → Type 0
@@ -67,7 +79,7 @@ AreInTurn nodes positions =
     (position : ℕ) (node : Node) → slice_get nodes position ≡ Some node
     → IsInTurn nodes positions position node
 
--- the node is in turn, and stands for what its input shows, within the limit of deltas
+-- the node is in turn, and stands for what its inputs show, within the limit of deltas
 pub record IsSettled (nodes : List Node) (positions : List ℕ) (position : ℕ) (node : Node) : Type 0
   where
     pub turn : IsInTurn nodes positions position node

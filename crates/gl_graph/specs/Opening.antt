@@ -1,5 +1,6 @@
 -- Which lists a graph opens, and why it doesn't.
-use Rattle.std.specs.Prelude.{◌≡◌, ◌<◌, ⊤, ℕ, List, slice_get, Some}
+use Rattle.std.specs.Prelude.{◌≡◌, ◌<◌, ◌++◌, ⊤, ℕ, List, slice_get, Some}
+use Rattle.std.specs.List.{All}
 use Rattle.spec_states.specs.ListDecl.{ListDecl}
 use Rattle.spec_states.specs.ListKind.{ListKind}
 use Rattle.spec_states.specs.ListKind.TheVariants as kinds
@@ -8,7 +9,7 @@ use Rattle.gl_source.specs.declared.fault.OpenFault.TheVariants.{TooLong, Memory
 use Rattle.gl_kernels.specs.KernelFault.{KernelFault}
 use Rattle.gl_kernels.specs.KernelFault.TheVariants as k
 
--- the list is of a kind that is built, and this is said of its input, if it has one
+-- the list is of a kind that is built, and this is said of each list that it depends on
 abbrev pub IsBuilt : (ℕ → Type 0) → ListKind → Type 0
 IsBuilt P (kinds.Source rows) = ⊤
 IsBuilt P (kinds.Filter input matcher) = P input
@@ -16,6 +17,7 @@ IsBuilt P (kinds.Sorted input order) = P input
 IsBuilt P (kinds.Range input bounds) = P input
 IsBuilt P (kinds.Function input func) = P input
 IsBuilt P (kinds.Collection input kids) = P input
+IsBuilt P (kinds.Composite members may) = All P (members ++ may)
 IsBuilt P other = ⊥
 
 -- the list would have so many elements, which are too many

@@ -25,6 +25,7 @@ use Rattle.gl_graph.specs.declared.graph.Refused.TheVariants.{OutOfRange, TooLon
 use Rattle.gl_graph.specs.Nodes.{own_of, numbers, shown_by, state_of, OnInput, StandsFor, IsPlaced, AreInTurn, AreSettled}
 use Rattle.gl_graph.specs.Commands.{Suits}
 use Rattle.gl_graph.specs.Graph.{limit_of, IsLimited, IsGraph}
+use Rattle.gl_graph.specs.Room.{IsNoMore}
 use Rattle.gl_graph.specs.Undos.{contents, room_of, IsUndo}
 use Rattle.gl_graph.specs.Waves.{IsTold, Made, contents_of, before_all, by_position, AreApart, CanAllGoBack, HaveRoomBack}
 
@@ -118,7 +119,7 @@ pub record IsTried (start : Option ℕ) (shows : ℕ → List Tree) (c : Command
   pub err : OnErr result (contents new ≡ contents old)
   pub stopped : (limit : ℕ) → IsLimited limit old
       → IfErr result (IsStopped limit start shows c deltas list (own_of old))
-  pub room : OnErr result (room_of old ≤ room_of new)
+  pub room : OnErr result (IsNoMore (room_of old) (room_of new))
 
 -- the list can be turned by a command whose wave begins at one, where this is told of those before it
 pub record CanTurn (start : Option ℕ) (shows : ℕ → List Tree) (c : Command)

@@ -1,46 +1,54 @@
 -- What the undos of lists give back.
-use Rattle.std.specs.Prelude.{◌≡◌, ◌≤◌, ℕ, List, Option, Some, None}
+use Rattle.std.specs.Prelude.{◌≡◌, ℕ, List}
 use Rattle.spec_states.specs.Tree.{Tree}
 use Rattle.gl_source.specs.Stands as source
 use Rattle.gl_graph.specs.declared.keeps.Keeps.{Keeps}
-use Rattle.gl_graph.specs.declared.keeps.Keeps.TheVariants.{Source, Over}
+use Rattle.gl_graph.specs.declared.keeps.Keeps.TheVariants.{Source, Over, Composite}
 use Rattle.gl_graph.specs.declared.keeps.KeepsUndo.{KeepsUndo}
 use Rattle.gl_graph.specs.declared.keeps.KeepsUndo.TheVariants as u
+use Rattle.gl_composite.specs.Stands as composite_stands
 use Rattle.gl_graph.specs.Derived as derived
+use Rattle.gl_graph.specs.Room.{Room, room, IsNoMore}
 
 -- what a list keeps, whatever its room
 pub data Contents : Type 0 where
   of_source : List Tree → ℕ → Contents
   of_over : ℕ → derived.Contents → Contents
+  of_composite : List ℕ → composite_stands.Contents → Contents
 
 abbrev pub contents : Keeps → Contents
 contents (Source k) = of_source k.values k.limit
 contents (Over input d) = of_over input (derived.contents d)
+contents (Composite needed k) = of_composite needed (composite_stands.contents k)
 
 -- how much it has room for
-abbrev pub room_of : Keeps → ℕ
-room_of (Source k) = k.room
-room_of (Over input d) = derived.room_of d
+abbrev pub room_of : Keeps → Room
+room_of (Source k) = room k.room
+room_of (Over input d) = room (derived.room_of d)
+room_of (Composite needed k) = record { kept = k.room; members = k.list_room }
 
 -- what an undo makes of a list; one of another kind makes nothing of it
 abbrev pub before : KeepsUndo → Keeps → Contents
 before (u.Source undo) (Source k) = of_source (source.before undo k) k.limit
 before (u.Over undo) (Over input d) = of_over input (derived.before undo d)
+before (u.Composite undo) (Composite needed k) =
+    of_composite needed (composite_stands.before undo k)
 before undo keeps = contents keeps
 
 -- the undo is of the list's kind, and the list has what the way back needs
 abbrev pub CanRetreat : KeepsUndo → Keeps → Type 0
 CanRetreat (u.Source undo) (Source k) = source.CanRetreat undo k
 CanRetreat (u.Over undo) (Over input d) = derived.CanRetreat undo d
+CanRetreat (u.Composite undo) (Composite needed k) = composite_stands.CanRetreat undo k
 CanRetreat undo keeps = ⊥
 
 -- how much a list has room for once an undo was taken
-abbrev pub room_back : KeepsUndo → Keeps → ℕ
-room_back (u.Over undo) (Over input d) = derived.room_back undo d
+abbrev pub room_back : KeepsUndo → Keeps → Room
+room_back (u.Over undo) (Over input d) = room (derived.room_back undo d)
 room_back undo keeps = room_of keeps
 
 -- the undo is of the list's last change: it leads back to what the list was, in no less room, and can be made
 pub record IsUndo (undo : KeepsUndo) (old new : Keeps) : Type 0 where
   pub back : before undo new ≡ contents old
-  pub room : room_of old ≤ room_back undo new
+  pub room : IsNoMore (room_of old) (room_back undo new)
   pub can : CanRetreat undo new

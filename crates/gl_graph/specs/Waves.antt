@@ -16,6 +16,7 @@ use Rattle.gl_graph.specs.declared.graph.Refused.TheVariants.{OutOfRange, TooLon
 use Rattle.gl_graph.specs.declared.graph.GraphUndo.{GraphUndo}
 use Rattle.gl_graph.specs.Nodes.{numbers}
 use Rattle.gl_graph.specs.Graph.{Kept, IsGraph}
+use Rattle.gl_graph.specs.Room.{Room, IsNoMore}
 use Rattle.gl_graph.specs.Undos as keeps
 
 -- what is told of a list of so many elements: a delta, or nothing where nothing changes
@@ -46,7 +47,7 @@ before_one None k = keeps.contents k
 before_one (Some undo) k = keeps.before undo k
 
 -- how much the list then has room for
-abbrev pub room_one : Option KeepsUndo → Keeps → ℕ
+abbrev pub room_one : Option KeepsUndo → Keeps → Room
 room_one None k = keeps.room_of k
 room_one (Some undo) k = keeps.room_back undo k
 
@@ -60,7 +61,8 @@ abbrev pub HaveRoomBack : List (Option KeepsUndo) → List Node → List (Option
 HaveRoomBack undos nodes others more =
     (position : ℕ) (a b : Node) → slice_get nodes position ≡ Some a
     → slice_get more position ≡ Some b
-    → room_one (undo_at undos position) a.keeps ≤ room_one (undo_at others position) b.keeps
+    → IsNoMore (room_one (undo_at undos position) a.keeps)
+    (room_one (undo_at others position) b.keeps)
 
 -- no list has lost room
 abbrev pub HaveRoomOf : List Node → List Node → Type 0

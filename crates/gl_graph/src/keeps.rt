@@ -12,29 +12,34 @@ ghost use Rattle.gl_kernels.specs.KernelFault.{KernelFault};
 ghost use Rattle.gl_graph.specs.Derived.{view_of_derived};
 ghost use Rattle.gl_graph.specs.Derived as derived_keeps;
 ghost use Rattle.gl_graph.specs.Spots.{spotted, OnSpot};
-ghost use Rattle.gl_graph.specs.Nodes.{own_of, StandsFor, OnInput, IsPlaced, AreSettled, shown_by};
+ghost use Rattle.gl_graph.specs.Nodes.{own_of, StandsFor, OnInput, AreAmong, IsPlaced, AreSettled, shown_by};
 ghost use Rattle.gl_graph.specs.Commands.{Gives, Suits};
 ghost use Rattle.gl_graph.specs.Graph.{IsLimited};
+ghost use Rattle.gl_graph.specs.Room.{IsNoMore};
 ghost use Rattle.gl_graph.specs.Undos.{contents, before, room_of, room_back, CanRetreat};
 ghost use Rattle.gl_graph.specs.Spread.{CanTurn, IsChanged, IsStep, IsStopped, IsRefusalOf, IsRefusalBy};
 
 use crate::derived::{Derived, DerivedUndo};
 use crate::graph::Refused;
+use crate::members::{is_told, member_spot, regroup};
 use crate::node::Node;
 use crate::seen::see;
 use crate::source::edit_source;
 use crate::spot::Spot;
+use gl_composite::{Composite, CompositeUndo};
 use gl_kernels::{Delta, Deltas, KernelFault};
-use gl_plan::{Command, Shelf, Steps};
+use gl_plan::{Command, Items, Shelf, Steps};
 use gl_source::{EditFault, SourceList, SourceUndo};
 use std::alloc::{AllocError, Global};
 use std::sync::ledger::Ledger;
 
-/// What a list keeps: a source its elements, a list over one input the number of that and what its kind keeps of it.
+/// What a list keeps: a source its elements, a list over one input the number of that and what its kind keeps of it, a
+/// composite the lists that it depends on and what it keeps of its members.
 #[derive(Drop)]
 pub enum Keeps {
     Source(SourceList),
     Over { input: u32, derived: Derived },
+    Composite { needed: Items<u32>, composite: Composite },
 }
 
 /// What takes a list back to where it stood before a change.
@@ -42,6 +47,7 @@ pub enum Keeps {
 pub enum KeepsUndo {
     Source(SourceUndo),
     Over(DerivedUndo),
+    Composite(CompositeUndo),
 }
 
 impl Keeps {
@@ -53,6 +59,7 @@ impl Keeps {
         match self {
             Keeps::Source(source) => source.len(),
             Keeps::Over { input: _, derived } => derived.len(),
+            Keeps::Composite { needed: _, composite } => composite.len(),
         }
     }
 
@@ -61,7 +68,8 @@ impl Keeps {
     pub fn find(&self, position: usize) -> Option<Spot<'_>>
         ensures spotted { (shows : ℕ → List Tree) → StandsFor self.now shows
             → spotted result shows ≡ slice_get (shown_of (own_of self.now) shows) position }
-        ensures on { OnSpot (Contains (inputs (own_of self.now))) result }
+        ensures on { (shows : ℕ → List Tree) → AreAmong self.now → StandsFor self.now shows
+            → OnSpot (Contains (inputs (own_of self.now))) result }
     {
         match self {
             Keeps::Source(source) => match source.get(position) {
@@ -69,6 +77,7 @@ impl Keeps {
                 None => None,
             },
             Keeps::Over { input, derived } => derived.find(*input, position),
+            Keeps::Composite { needed: _, composite } => member_spot(composite, position),
         }
     }
 
@@ -87,6 +96,7 @@ impl Keeps {
     ) -> Result<Option<(Delta, KeepsUndo)>, Refused>
         requires settled { AreSettled prefix.now positions.now }
         requires later { OnInput (IsPlaced prefix.now positions.now) self.old }
+        requires among { AreAmong self.old }
         requires can { CanTurn (Some start) (shown_by prefix.now positions.now) command.now
             deltas.now list self.old }
         ensures ok { IfOk result
@@ -94,7 +104,7 @@ impl Keeps {
         ensures err { OnErr result (contents self.new ≡ contents self.old) }
         ensures stopped { (limit : ℕ) → IsLimited limit self.old → IfErr result
             (IsStopped limit (Some start) (shown_by prefix.now positions.now) command.now deltas.now list (own_of self.old)) }
-        ensures room { OnErr result (room_of self.old ≤ room_of self.new) }
+        ensures room { OnErr result (IsNoMore (room_of self.old) (room_of self.new)) }
     {
         if list == start {
             return match self.begin(alloc, list, prefix, positions, command, deltas, steps) {
@@ -111,6 +121,15 @@ impl Keeps {
                     Err(fault) => Err(refusal_by(list, fault)),
                 },
             },
+            Keeps::Composite { needed, composite } => {
+                if !is_told(needed, deltas) {
+                    return Ok(None);
+                }
+                match composite.advance(deltas) {
+                    Ok((out, undo)) => Ok(Some((out, KeepsUndo::Composite(undo)))),
+                    Err(fault) => Err(refusal_by(list, fault)),
+                }
+            }
         }
     }
 
@@ -127,6 +146,7 @@ impl Keeps {
     ) -> Result<(Delta, KeepsUndo), Refused>
         requires settled { AreSettled prefix.now positions.now }
         requires later { OnInput (IsPlaced prefix.now positions.now) self.old }
+        requires among { AreAmong self.old }
         requires suits { Suits command.now (own_of self.old) }
         requires stands { StandsFor self.old (shown_by prefix.now positions.now) }
         ensures ok { IfOk result
@@ -134,7 +154,7 @@ impl Keeps {
         ensures err { OnErr result (contents self.new ≡ contents self.old) }
         ensures stopped { (limit : ℕ) → IsLimited limit self.old → IfErr result
             (IsStopped limit (Some list) (shown_by prefix.now positions.now) command.now deltas.now list (own_of self.old)) }
-        ensures room { OnErr result (room_of self.old ≤ room_of self.new) }
+        ensures room { OnErr result (IsNoMore (room_of self.old) (room_of self.new)) }
     {
         match self {
             Keeps::Source(source) => match edit_source(source, alloc, command) {
@@ -147,6 +167,12 @@ impl Keeps {
                 )?;
                 Ok((out, KeepsUndo::Over(undo)))
             }
+            Keeps::Composite { needed: _, composite } => {
+                match regroup(composite, list, prefix, positions, command) {
+                    Ok((out, undo)) => Ok((out, KeepsUndo::Composite(undo))),
+                    Err(why) => Err(why),
+                }
+            }
         }
     }
 
@@ -154,7 +180,7 @@ impl Keeps {
     pub fn retreat(&mut self, undo: KeepsUndo)
         requires { CanRetreat undo self.old }
         ensures back { contents self.new ≡ before undo self.old }
-        ensures room { room_back undo self.old ≤ room_of self.new }
+        ensures room { IsNoMore (room_back undo self.old) (room_of self.new) }
     {
         match undo {
             KeepsUndo::Source(undo) => match self {
@@ -163,6 +189,10 @@ impl Keeps {
             },
             KeepsUndo::Over(undo) => match self {
                 Keeps::Over { input: _, derived } => derived.retreat(undo),
+                _ => unreachable!(),
+            },
+            KeepsUndo::Composite(undo) => match self {
+                Keeps::Composite { needed: _, composite } => composite.retreat(undo),
                 _ => unreachable!(),
             },
         }
@@ -235,8 +265,8 @@ fn follow<L: Ledger>(
     derived.advance(&shelf, d, steps)
 }
 
-// Why a list that follows stops the command.
-fn refusal_by(list: u32, fault: KernelFault) -> Refused
+/// Why a list that follows stops the command.
+pub(crate) fn refusal_by(list: u32, fault: KernelFault) -> Refused
     ensures { IsRefusalBy list fault result }
 {
     match fault {

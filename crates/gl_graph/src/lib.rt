@@ -8,6 +8,7 @@ mod derived;
 mod fault;
 mod graph;
 mod keeps;
+mod members;
 mod node;
 mod open;
 mod position;

@@ -18,11 +18,11 @@ use Rattle.gl_world.specs.declared.telling.Telling.{Telling as Told}
 use Rattle.gl_world.specs.Told.{telling_data, tellings_of}
 use Rattle.gl_report.specs.Lines.{spelled_entry, list_line, told_line}
 
--- a list over at most one input is never held
+-- a list that is no transaction list, freezable list or proxy is never held
 held_plain : (name : List ℕ) (own : Own) → IsPlainOwn own → held_line name own ≡ []
 held_plain name (source contents) plain = refl
 held_plain name (over input view) plain = refl
-held_plain name (composite needed members) plain = absurd plain
+held_plain name (composite needed members) plain = refl
 held_plain name (transaction input levels) plain = absurd plain
 held_plain name (freezable input since) plain = absurd plain
 held_plain name (proxy input kept queue) plain = absurd plain

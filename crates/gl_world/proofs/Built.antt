@@ -1,6 +1,8 @@
 -- The lists of a plan that is built are of the kinds that a graph opens.
-use Rattle.std.proofs.Common.{◌≡◌, zero, suc, true, List, [], ◌∷◌, subst}
-use Rattle.std.specs.List.{list_all}
+use Rattle.std.proofs.Common.{◌≡◌, ◌++◌, ℕ, zero, suc, true, List, [], ◌∷◌, subst}
+use Rattle.std.specs.Prelude.{⊤}
+use Rattle.std.specs.List.{All, AllByRecursion, list_all}
+use Rattle.std.proofs.lemmas.List.Elements.{All-from_recursion}
 use Rattle.std.proofs.lemmas.Bool.{and_parts}
 use Rattle.spec_states.specs.ListDecl.{ListDecl}
 use Rattle.spec_states.specs.ListKind.{ListKind}
@@ -10,6 +12,13 @@ use Rattle.spec_runs.specs.Built.{is_built_kind, is_built}
 use Rattle.spec_runs.proofs.Built.{built_lists}
 use Rattle.gl_graph.specs.Opening.{IsKindBuilt, AreKindsBuilt}
 
+all_true : (xs : List ℕ) → All (λ x. ⊤) xs
+all_true xs = All-from_recursion (λ x. ⊤) xs (by_length xs)
+  where
+    by_length : (xs : List ℕ) → AllByRecursion (λ x. ⊤) xs
+    by_length [] = tt
+    by_length (x ∷ xs) = (tt, by_length xs)
+
 kind_built : (kind : ListKind) → is_built_kind kind ≡ true → IsKindBuilt kind
 kind_built (kinds.Source rows) e = tt
 kind_built (kinds.Filter input matcher) e = tt
@@ -17,9 +26,9 @@ kind_built (kinds.Sorted input order) e = tt
 kind_built (kinds.Range input bounds) e = tt
 kind_built (kinds.Function input func) e = tt
 kind_built (kinds.Collection input kids) e = tt
+kind_built (kinds.Composite members may) e = all_true (members ++ may)
 kind_built (kinds.Unique input order) e = absurd cc
 kind_built (kinds.Grouping input order) e = absurd cc
-kind_built (kinds.Composite members may) e = absurd cc
 kind_built (kinds.Transaction input) e = absurd cc
 kind_built (kinds.Freezable input) e = absurd cc
 kind_built (kinds.Proxy input) e = absurd cc

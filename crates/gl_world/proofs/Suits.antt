@@ -11,14 +11,15 @@ use Rattle.spec_states.specs.WellFormed.{needed_class}
 use Rattle.spec_states.specs.View.{filter, sorted, unique, grouping, range, function, collection}
 use Rattle.spec_states.specs.State.{Own, State, source, over, composite, transaction, freezable, proxy, own_at}
 use Rattle.spec_states.specs.Wave.{parameter_of}
+use Rattle.spec_states.specs.Laws.{MayAttach}
 use Rattle.spec_runs.specs.Kinds.{class_of_own, HasClass, IsFor, IsChange}
 use Rattle.spec_states.proofs.Plain.{IsPlainOwn, IsPlain}
 use Rattle.gl_graph.specs.declared.keeps.Keeps.{Keeps}
-use Rattle.gl_graph.specs.declared.keeps.Keeps.TheVariants.{Source, Over}
+use Rattle.gl_graph.specs.declared.keeps.Keeps.TheVariants.{Source, Over, Composite}
 use Rattle.gl_graph.specs.declared.node.Node.{Node}
 use Rattle.gl_graph.specs.Nodes.{own_of, own_of_node, own_in}
 use Rattle.gl_graph.specs.Graph.{Kept, state_of}
-use Rattle.gl_graph.specs.Commands.{IsEdit, IsMatcher, IsOrder, IsBounds, IsFunc, Suits}
+use Rattle.gl_graph.specs.Commands.{IsEdit, IsMatcher, IsOrder, IsBounds, IsFunc, IsMembership, Suits}
 
 -- the command is one for the lists of a class
 abbrev ForClass : ListClass → Command → Type 0
@@ -28,7 +29,7 @@ ForClass class.Ordered command = IsOrder (parameter_of command)
 ForClass class.Bounded command = IsBounds (parameter_of command)
 ForClass class.Mapped command = IsFunc (parameter_of command)
 ForClass class.Collected command = ⊥
-ForClass class.Composed command = ⊤
+ForClass class.Composed command = IsMembership command
 ForClass class.Undone command = ⊤
 ForClass class.Frozen command = ⊤
 ForClass class.Pumped command = ⊤
@@ -58,21 +59,28 @@ by_class (c.Freeze list) own change is = for_own (c.Freeze list) own class.Froze
 by_class (c.Thaw list) own change is = for_own (c.Thaw list) own class.Frozen is tt
 by_class (c.Show list) own change is = absurd change
 
-suits_class : (command : Command) (own : Own) → IsPlainOwn own → ForClass (class_of_own own) command → Suits command own
-suits_class command (source contents) plain h = h
-suits_class command (over input (filter matcher)) plain h = h
-suits_class command (over input (sorted keys)) plain h = h
-suits_class command (over input (unique keys)) plain h = h
-suits_class command (over input (grouping keys)) plain h = h
-suits_class command (over input (range bounds)) plain h = h
-suits_class command (over input (function func)) plain h = h
-suits_class command (over input (collection path)) plain h = h
-suits_class command (composite needed members) plain h = absurd plain
-suits_class command (transaction input levels) plain h = absurd plain
-suits_class command (freezable input since) plain h = absurd plain
-suits_class command (proxy input kept queue) plain h = absurd plain
+-- a member that is attached may be
+suits_members : (command : Command) (needed members : List ℕ) → IsMembership command
+    → MayAttach command (composite needed members) → Suits command (composite needed members)
+suits_members (c.Attach list member) needed members h may = may
+suits_members (c.Detach list index) needed members h may = tt
+suits_members other needed members h may = absurd h
 
--- the lists of a graph are sources and lists over one input
+suits_class : (command : Command) (own : Own) → IsPlainOwn own → ForClass (class_of_own own) command → MayAttach command own → Suits command own
+suits_class command (source contents) plain h may = h
+suits_class command (over input (filter matcher)) plain h may = h
+suits_class command (over input (sorted keys)) plain h may = h
+suits_class command (over input (unique keys)) plain h may = h
+suits_class command (over input (grouping keys)) plain h may = h
+suits_class command (over input (range bounds)) plain h may = h
+suits_class command (over input (function func)) plain h may = h
+suits_class command (over input (collection path)) plain h may = h
+suits_class command (composite needed members) plain h may = suits_members command needed members h may
+suits_class command (transaction input levels) plain h may = absurd plain
+suits_class command (freezable input since) plain h may = absurd plain
+suits_class command (proxy input kept queue) plain h may = absurd plain
+
+-- the lists of a graph are sources, lists over one input and composites
 plain_map : (f : ℕ → Own) → ((k : ℕ) → IsPlainOwn (f k)) → (ks : List ℕ) → IsPlain (map f ks)
 plain_map f h [] list = tt
 plain_map f h (k ∷ ks) zero = h k
@@ -81,6 +89,7 @@ plain_map f h (k ∷ ks) (suc list) = plain_map f h ks list
 own_plain : (keeps : Keeps) → IsPlainOwn (own_of keeps)
 own_plain (Source k) = tt
 own_plain (Over input d) = tt
+own_plain (Composite needed k) = tt
 
 node_plain : (node : Option Node) → IsPlainOwn (own_of_node node)
 node_plain None = tt
@@ -95,4 +104,4 @@ pub graph_suits : (k : Kept) (command : Command) → IsFor command (state_of k) 
     → Suits command (own_at (state_of k) (about command))
 graph_suits k command h change =
     let own : Own = own_at (state_of k) (about command) in
-    suits_class command own (graph_plain k (about command)) (by_class command own change h.suits)
+    suits_class command own (graph_plain k (about command)) (by_class command own change h.suits) h.may

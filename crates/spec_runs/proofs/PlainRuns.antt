@@ -22,7 +22,7 @@ use Rattle.spec_runs.proofs.Built.{built_lists}
 plain_by_kind : (own : Own) → IsPlainOwn (kind_of own) → IsPlainOwn own
 plain_by_kind (source contents) h = tt
 plain_by_kind (over input view) h = tt
-plain_by_kind (composite needed members) h = h
+plain_by_kind (composite needed members) h = tt
 plain_by_kind (transaction input levels) h = h
 plain_by_kind (freezable input since) h = h
 plain_by_kind (proxy input kept queue) h = h
@@ -30,7 +30,7 @@ plain_by_kind (proxy input kept queue) h = h
 kind_plain : (own : Own) → IsPlainOwn own → IsPlainOwn (kind_of own)
 kind_plain (source contents) h = tt
 kind_plain (over input view) h = tt
-kind_plain (composite needed members) h = h
+kind_plain (composite needed members) h = tt
 kind_plain (transaction input levels) h = h
 kind_plain (freezable input since) h = h
 kind_plain (proxy input kept queue) h = h
@@ -44,7 +44,7 @@ opens_plain shows (kinds.Sorted input order) e = tt
 opens_plain shows (kinds.Unique input order) e = tt
 opens_plain shows (kinds.Grouping input order) e = tt
 opens_plain shows (kinds.Collection input kids) e = tt
-opens_plain shows (kinds.Composite members may) e = absurd cc
+opens_plain shows (kinds.Composite members may) e = tt
 opens_plain shows (kinds.Transaction input) e = absurd cc
 opens_plain shows (kinds.Freezable input) e = absurd cc
 opens_plain shows (kinds.Proxy input) e = absurd cc

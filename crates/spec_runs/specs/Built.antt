@@ -3,7 +3,7 @@
 use Rattle.std.specs.Prelude.{◌==◌, ◌&&◌, Bool, true, false, not, length}
 use Rattle.std.specs.List.{list_all}
 use Rattle.gl_lines.specs.declared.plan.ListKind.{ListKind}
-use Rattle.gl_lines.specs.declared.plan.ListKind.TheVariants.{Source, Filter, Sorted, Range, Function, Collection}
+use Rattle.gl_lines.specs.declared.plan.ListKind.TheVariants.{Source, Filter, Sorted, Range, Function, Collection, Composite}
 use Rattle.gl_lines.specs.declared.plan.ListenerDecl.{ListenerDecl}
 use Rattle.spec_plans.specs.Plan.{Plan}
 
@@ -14,6 +14,7 @@ is_built_kind (Sorted input order) = true
 is_built_kind (Range input bounds) = true
 is_built_kind (Function input func) = true
 is_built_kind (Collection input kids) = true
+is_built_kind (Composite members may) = true
 is_built_kind other = false
 
 -- a listener that is told after no other, and writes nothing back

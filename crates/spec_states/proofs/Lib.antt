@@ -22,3 +22,4 @@ pub use Rattle.spec_views.proofs.Same
 pub use Rattle.spec_lists.proofs.DeltaEdits
 pub use Rattle.spec_order.proofs.Acyclic
 pub use Rattle.spec_lists.proofs.ChangeCounts
+pub use Rattle.spec_views.proofs.Composites

@@ -30,3 +30,4 @@ pub use Rattle.spec_order.specs.DependencyOrder
 pub use Rattle.spec_plans.specs.declared.class.ListClass
 pub use Rattle.spec_plans.specs.WellFormed
 pub use Rattle.gl_lines.specs.declared.plan.ListenerDecl
+pub use Rattle.spec_views.specs.Composite
