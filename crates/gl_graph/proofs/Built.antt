@@ -90,12 +90,12 @@ opened_more limit s positions order nodes after list own few opened more within 
     whole : List Node
     whole = nodes ++ node ∷ []
 
+    among : AreAmong node.keeps
+    among = among_inward node.keeps (subst Inward (sym more.own_is) own_inward)
+
     dependency_order : AreInTurn whole positions
     dependency_order = order_more nodes positions node (order_of_settled nodes positions opened.settled) (subst (λ l. l < length positions) (sym more.list_is) within)
         (ap (λ l. slice_index positions l) more.list_is ∙ placed) (inputs node more.own_is) among
-
-    among : AreAmong node.keeps
-    among = among_inward node.keeps (subst Inward (sym more.own_is) own_inward)
 
     few_view : length (shown_of (own_of node.keeps) (shown_by nodes positions)) ≤ limit
     few_view = subst (λ o. length (shown_of o (shown_by nodes positions)) ≤ limit) (sym more.own_is) more.within

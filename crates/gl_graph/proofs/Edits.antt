@@ -37,14 +37,14 @@ edited_is (c.Remove list index) xs h = refl
 edited_is (c.Clear list) xs h = refl
 edited_is other xs h = absurd h
 
-below_inside : (index len : ℕ) → ¬ (len ≤ index) → out_of_range index len ≡ None
+pub below_inside : (index len : ℕ) → ¬ (len ≤ index) → out_of_range index len ≡ None
 below_inside index len h = by_test (nat_lt index len) refl
   where
     by_test : (t : Bool) → nat_lt index len ≡ t → (if t then None else Some (reply.OutOfRange index len)) ≡ None
     by_test true e = refl
     by_test false e = absurd (h (ltb-false index len e))
 
-below_outside : (index len : ℕ) → len ≤ index → out_of_range index len ≡ Some (reply.OutOfRange index len)
+pub below_outside : (index len : ℕ) → len ≤ index → out_of_range index len ≡ Some (reply.OutOfRange index len)
 below_outside index len h = by_test (nat_lt index len) refl
   where
     by_test : (t : Bool) → nat_lt index len ≡ t → (if t then None else Some (reply.OutOfRange index len)) ≡ Some (reply.OutOfRange index len)

@@ -1,5 +1,5 @@
 -- A list over one input that follows a change of it.
-use Rattle.std.proofs.Common.{◌≡◌, ◌≢◌, ◌∙◌, ℕ, List, [], length, refl, ap, sym, inr}
+use Rattle.std.proofs.Common.{◌≡◌, ◌≢◌, ◌∙◌, ℕ, List, [], length, refl, ap, sym, inr, arith}
 use Rattle.std.specs.Prelude.{Option, Some, None, slice_index_or}
 use Rattle.spec_states.proofs.Members.{Contains-here}
 use Rattle.spec_states.specs.Tree.{Tree}
@@ -33,6 +33,13 @@ following start list shows c deltas input old new d out undo other told delta st
     };
   },
 )
+  where
+    same : Some start ≡ Some list → list ≡ start
+    same e = cc
+
+-- the wave begins at another list
+pub isnt : (start list : ℕ) → list ≢ start → Some start ≢ Some list
+isnt start list other e = other (same e)
   where
     same : Some start ≡ Some list → list ≡ start
     same e = cc

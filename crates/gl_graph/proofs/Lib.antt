@@ -1,4 +1,5 @@
-pub mod Members
+pub mod MemberChanges
+pub mod MemberDeltas
 pub mod NoMore
 pub mod Plain
 pub mod Shown

@@ -169,6 +169,7 @@ can_turn limit old positions c start q nodes was told begun are to at = record {
   there = at;
   settled = are.settled;
   later = next.turn.later;
+  among = next.turn.among;
   can = record {
     within = on_inputs (λ i. i < length told) was.keeps (λ i d. let low : i < length positions = next.below i d in omega (arith, low, to.long));
     suits = λ same. subst (Suits c) (ap (own_at s) (sym (is_start limit old positions c start was.list begun same)) ∙ next.own) begun.suits;

@@ -24,7 +24,7 @@ use Rattle.gl_graph.specs.Commands.{Suits}
 use Rattle.gl_graph.specs.Derived.{view_of_derived}
 use Rattle.gl_graph.specs.Derived as derived
 use Rattle.gl_graph.specs.Nodes.{own_of, own_of_node, own_in, state_of, OnInput, AreAmong, AreInTurn, StandsFor}
-use Rattle.gl_graph.proofs.Members.{flat_map_local, lens_local, members_local}
+use Rattle.gl_graph.proofs.MemberChanges.{flat_map_local, lens_local, members_local}
 
 -- a composite's members are among the lists that it depends on
 abbrev pub IsPlain : Own → Type 0

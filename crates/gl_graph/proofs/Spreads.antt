@@ -101,11 +101,11 @@ on_by limit old positions c start q nodes was now told done begun are to next st
     s : State
     s = state_of old positions
 
-    sound : IsSound (state_of old positions)
-    sound = state_sound old positions dependency_order begun.graph.ordered
-
     dependency_order : AreInTurn old positions
     dependency_order = order_of_settled old positions begun.graph.settled
+
+    sound : IsSound (state_of old positions)
+    sound = state_sound old positions dependency_order begun.graph.ordered
 
     shows : ℕ → List Tree
     shows = shown_by (take q nodes) positions
@@ -148,11 +148,11 @@ still_by limit old positions c start q nodes was now told begun to next step = r
     w : State
     w = wave s (command c)
 
-    sound : IsSound (state_of old positions)
-    sound = state_sound old positions dependency_order begun.graph.ordered
-
     dependency_order : AreInTurn old positions
     dependency_order = order_of_settled old positions begun.graph.settled
+
+    sound : IsSound (state_of old positions)
+    sound = state_sound old positions dependency_order begun.graph.ordered
 
     other : was.list ≢ about c
     other = isnt_start limit old positions c start was.list begun step.0

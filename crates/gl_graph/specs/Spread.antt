@@ -22,7 +22,7 @@ use Rattle.gl_graph.specs.declared.keeps.Keeps.{Keeps}
 use Rattle.gl_graph.specs.declared.keeps.KeepsUndo.{KeepsUndo}
 use Rattle.gl_graph.specs.declared.graph.Refused.{Refused}
 use Rattle.gl_graph.specs.declared.graph.Refused.TheVariants.{OutOfRange, TooLong, Memory}
-use Rattle.gl_graph.specs.Nodes.{own_of, numbers, shown_by, state_of, OnInput, StandsFor, IsPlaced, AreInTurn, AreSettled}
+use Rattle.gl_graph.specs.Nodes.{own_of, numbers, shown_by, state_of, OnInput, AreAmong, StandsFor, IsPlaced, AreInTurn, AreSettled}
 use Rattle.gl_graph.specs.Commands.{Suits}
 use Rattle.gl_graph.specs.Graph.{limit_of, IsLimited, IsGraph}
 use Rattle.gl_graph.specs.Room.{IsNoMore}
@@ -155,6 +155,7 @@ pub record CanTurnAt (start : Option ℕ) (positions : List ℕ) (c : Command)
   pub there : slice_get nodes position ≡ Some node
   pub settled : AreSettled (take position nodes) positions
   pub later : OnInput (IsPlaced (take position nodes) positions) node.keeps
+  pub among : AreAmong node.keeps
   pub can : CanTurn start (shown_by (take position nodes) positions) c deltas node.list node.keeps
 
 -- where a command begins a wave, if it does

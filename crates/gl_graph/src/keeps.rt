@@ -122,13 +122,13 @@ impl Keeps {
                 },
             },
             Keeps::Composite { needed, composite } => {
-                if !is_told(needed, deltas) {
-                    return Ok(None);
+                if is_told(needed, deltas) {
+                    return match composite.advance(deltas) {
+                        Ok((out, undo)) => Ok(Some((out, KeepsUndo::Composite(undo)))),
+                        Err(fault) => Err(refusal_by(list, fault)),
+                    };
                 }
-                match composite.advance(deltas) {
-                    Ok((out, undo)) => Ok(Some((out, KeepsUndo::Composite(undo)))),
-                    Err(fault) => Err(refusal_by(list, fault)),
-                }
+                Ok(None)
             }
         }
     }

@@ -1,6 +1,6 @@
 //! What a composite does with its members.
 
-ghost use Rattle.std.specs.Prelude.{◌≡◌, ◌≢◌, ◌≤◌, ◌↔◌, ℕ, List, Some, None, length, slice_get, slice_index_or, IfOk, IfErr, OnOk, OnErr, IsTrue};
+ghost use Rattle.std.specs.Prelude.{◌≡◌, ◌<◌, ◌≤◌, ◌↔◌, ℕ, List, Some, None, length, slice_get, slice_index_or, IfOk, IfErr, OnOk, OnErr, IsTrue};
 ghost use Rattle.std.specs.List.{All, Contains};
 ghost use Rattle.spec_states.specs.Tree.{Tree};
 ghost use Rattle.spec_states.specs.Composite.{composite_view};

@@ -11,14 +11,18 @@ use Rattle.gl_graph.proofs.seen.+element.Goals as goal
 pub element-requires : goal.element-requires
 element-requires t c =
     let node = c.node_of.result.now in
-    let on = subst (OnSpot (Contains (inputs (own_of node.keeps)))) (c.in-Some-Of.is ∙ ap Some c.in-Some-Of.field-0-is) c.find.ensures.on in
+    let settled = c.requires.settled (slice_index c.args.positions.now c.args.list) node c.node_of.ensures.node in
+    let on = subst (OnSpot (Contains (inputs (own_of node.keeps)))) (c.in-Some-Of.is ∙ ap Some c.in-Some-Of.field-0-is)
+    (c.find.ensures.on (shown_by c.args.prefix.now c.args.positions.now) settled.turn.among settled.stands) in
     let known = spot_before c.args.prefix.now c.args.positions.now c.args.list c.in-Some-Of.other node c.requires.settled c.node_of.ensures.node on in
     (subst (λ m. slice_index c.args.positions.now c.in-Some-Of.other < m) c.decreases known.1, (c.requires.settled, known.0))
 
 pub element-requires-in-Some-Child : goal.element-requires-in-Some-Child
 element-requires-in-Some-Child t c =
     let node = c.node_of.result.now in
-    let on = subst (OnSpot (Contains (inputs (own_of node.keeps)))) (c.in-Some-Child.is ∙ ap Some c.in-Some-Child.field-0-is) c.find.ensures.on in
+    let settled = c.requires.settled (slice_index c.args.positions.now c.args.list) node c.node_of.ensures.node in
+    let on = subst (OnSpot (Contains (inputs (own_of node.keeps)))) (c.in-Some-Child.is ∙ ap Some c.in-Some-Child.field-0-is)
+    (c.find.ensures.on (shown_by c.args.prefix.now c.args.positions.now) settled.turn.among settled.stands) in
     let known = spot_before c.args.prefix.now c.args.positions.now c.args.list c.in-Some-Child.other node c.requires.settled c.node_of.ensures.node on in
     (subst (λ m. slice_index c.args.positions.now c.in-Some-Child.other < m) c.decreases known.1, (c.requires.settled, known.0))
 

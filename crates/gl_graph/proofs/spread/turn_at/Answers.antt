@@ -1,7 +1,7 @@
 use Rattle.std.proofs.Common.{◌≡◌, ◌∙◌, ◌++◌, take, ap, sym, subst}
 use Rattle.std.specs.Prelude.{Some, slice_index_or}
 use Rattle.gl_graph.specs.declared.node.Node.{Node}
-use Rattle.gl_graph.specs.Nodes.{shown_by, OnInput, IsPlaced, AreSettled}
+use Rattle.gl_graph.specs.Nodes.{shown_by, OnInput, AreAmong, IsPlaced, AreSettled}
 use Rattle.gl_graph.specs.Spread.{CanTurn}
 use Rattle.gl_graph.proofs.Splits.{first_back, tried_at}
 use Rattle.gl_graph.proofs.spread.turn_at.Goals as goal
@@ -22,6 +22,15 @@ turn-requires-clause-later g c =
     let first = first_back nodes prefix back c.args.position c.requires.node c.index-back-0.result whole c.split_at_mut-prefix.ensures.front_len c.requires.there in
     subst (λ (n : Node). OnInput (IsPlaced prefix c.args.positions.now) n.keeps) (sym first)
     (subst (λ ns. OnInput (IsPlaced ns c.args.positions.now) c.requires.node.keeps) (sym prefix_is) c.requires.later)
+
+pub turn-requires-clause-among : goal.turn-requires-clause-among
+turn-requires-clause-among g c =
+    let nodes = c.args.nodes.now.items in
+    let prefix = c.split_at_mut-prefix.result.0.now in
+    let back = c.split_at_mut-prefix.result.1.now in
+    let whole : nodes ≡ prefix ++ back = sym c.deref_mut.ensures.value ∙ c.split_at_mut-prefix.ensures.value in
+    let first = first_back nodes prefix back c.args.position c.requires.node c.index-back-0.result whole c.split_at_mut-prefix.ensures.front_len c.requires.there in
+    subst (λ (n : Node). AreAmong n.keeps) (sym first) c.requires.among
 
 pub turn-requires-clause-can : goal.turn-requires-clause-can
 turn-requires-clause-can g c =
