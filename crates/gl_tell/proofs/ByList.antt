@@ -1,5 +1,5 @@
 -- The listeners of each list, one listener after another.
-use Rattle.std.proofs.Common.{◌≡◌, ◌≢◌, ◌⊎◌, ◌∙◌, ℕ, zero, suc, ◌+◌, ◌<◌, ◌≤◌, ◌==◌, Bool, true, false, cond, List, [], ◌∷◌, ◌++◌, length, get_or, slice_set, take, refl, ap, sym, subst, arith, append-nil, eq-eqb, inl, inr}
+use Rattle.std.proofs.Common.{◌≡◌, ◌∙◌, ℕ, zero, suc, ◌+◌, ◌<◌, ◌≤◌, ◌==◌, Bool, true, false, cond, List, [], ◌∷◌, ◌++◌, length, get_or, slice_set, take, refl, ap, sym, subst, arith, append-nil, eq-eqb, inl, inr}
 use Rattle.std.specs.Prelude.{Contains, Some, slice_get, slice_index_or}
 use Rattle.std.specs.List.{AllByRecursion}
 use Rattle.std.proofs.lemmas.Bool.{cases_eq, ne_eqb}
@@ -95,7 +95,7 @@ among_has number list (e ∷ ds) zero k d is at there =
       | inl here ↦ ap (λ (l : ListenerDecl). l.list) (sym same) ∙ here
       | inr ne ↦
           let P : Bool → Type 0 = λ t. Contains (cond t (number ∷ listeners_from (suc number) list ds)
-              (listeners_from (suc number) list ds)) k in
+          (listeners_from (suc number) list ds)) k in
           let low = from_above (suc number) list ds k (subst P (ne_eqb e.list list ne) there) in
           absurd (omega (arith, low, is))
     ]
@@ -118,7 +118,7 @@ has_among number [] i k d is at = absurd cc
 has_among number (e ∷ ds) zero k d is at =
     let same : e ≡ d = cc in
     let P : Bool → Type 0 = λ t. Contains (cond t (number ∷ listeners_from (suc number) d.list ds)
-        (listeners_from (suc number) d.list ds)) k in
+    (listeners_from (suc number) d.list ds)) k in
     subst P (sym (eq-eqb e.list d.list (ap (λ (l : ListenerDecl). l.list) same)))
     (Contains-here number (listeners_from (suc number) d.list ds) k (omega (arith, is)))
 has_among number (e ∷ ds) (suc i) k d is at =

@@ -1,8 +1,10 @@
 -- Deltas of lists, handed to their listeners one list after another.
-use Rattle.std.proofs.Common.{◌≡◌, ◌≢◌, ◌⊎◌, ◌∙◌, ℕ, zero, suc, ◌+◌, ◌<◌, ◌≤◌, ◌++◌, List, [], ◌∷◌, length, get_or, slice_set, take, refl, ap, sym, arith, subst, length-set, get_or-set_same, get_or-set_other, inl, inr}
+use Rattle.std.proofs.Common.{◌≡◌, ◌⊎◌, ◌∙◌, ℕ, zero, suc, ◌+◌, ◌<◌, ◌≤◌, ◌++◌, List, [], ◌∷◌, length, slice_set, take, refl, ap, sym, arith, subst, length-set, get_or-set_same, get_or-set_other, inl, inr}
 use Rattle.std.specs.Prelude.{Contains, Option, Some, None, option_map, slice_get, slice_index, slice_index_or, replicate}
 use Rattle.std.specs.List.{AllByRecursion}
-use Rattle.std.proofs.lemmas.Bool.{cases_eq, cases_lt}
+use Rattle.std.proofs.lemmas.Bool.{cases_eq}
+use Rattle.std.proofs.lemmas.List.{length-replicate}
+use Rattle.spec_states.proofs.Lists.{replicate_at}
 use Rattle.spec_plans.proofs.Members.{Contains-cons_cases, Contains-here, Contains-later, Contains-nil}
 use Rattle.spec_states.specs.Delta.{Delta}
 use Rattle.spec_states.specs.ListenerDecl.{ListenerDecl}
@@ -83,12 +85,6 @@ below_at n [] i all within = absurd (omega (arith, within))
 below_at n (j ∷ ks) zero all within = all.0
 below_at n (j ∷ ks) (suc i) all within = below_at n ks i all.1 (omega (arith, within))
 
-pub all_but_last : (n : ℕ) (ks : List ℕ) (last : ℕ) → AllByRecursion (λ j. j < n) (ks ++ last ∷ [])
-    → AllByRecursion (λ j. j < n) ks × (last < n)
-all_but_last n [] last all = (tt, all.0)
-all_but_last n (j ∷ ks) last all =
-    let others = all_but_last n ks last all.1 in ((all.0, others.0), others.1)
-
 -- ---- one list more
 
 -- the deltas of the lists below a number were handed to their listeners, and those of the others are left
@@ -101,15 +97,6 @@ pub record AreHandedTo (p : Plan) (list : ℕ) (start left heard : List (Option 
   pub none : (k : ℕ) (d : ListenerDecl) → slice_get p.listeners k ≡ Some d → list ≤ d.list
       → slice_index_or heard k None ≡ None
 
-replicate_none : (n k : ℕ) → slice_index_or {A = Option DeltaModel} (replicate n None) k None ≡ None
-replicate_none zero k = refl
-replicate_none (suc n) zero = refl
-replicate_none (suc n) (suc k) = replicate_none n k
-
-length-replicate : {X : Type 0} (n : ℕ) (x : X) → length (replicate n x) ≡ n
-length-replicate zero x = refl
-length-replicate (suc n) x = ap suc (length-replicate n x)
-
 pub handed_none : (p : Plan) (start heard : List (Option DeltaModel)) → heard ≡ replicate (length p.listeners) None
     → AreHandedTo p 0 start start heard
 handed_none p start heard is = record {
@@ -117,7 +104,7 @@ handed_none p start heard is = record {
   many = refl;
   rest = λ j low. refl;
   done = λ k d at low. absurd (omega (arith, low));
-  none = λ k d at low. ap (λ hs. slice_index_or hs k None) is ∙ replicate_none (length p.listeners) k;
+  none = λ k d at low. ap (λ hs. slice_index_or hs k None) is ∙ replicate_at None (length p.listeners) k;
 }
 
 -- the listeners of one list more were handed its delta

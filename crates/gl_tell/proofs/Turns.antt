@@ -1,10 +1,9 @@
 -- What listeners are told, one after another.
-use Rattle.std.proofs.Common.{◌≡◌, ◌≢◌, ◌∙◌, ℕ, zero, suc, ◌+◌, ◌<◌, ◌≤◌, ◌++◌, List, [], ◌∷◌, length, flat_map, get_or, slice_set, drop, refl, ap, sym, arith, subst, append_assoc, get_or-set_other, eq-eqb}
-use Rattle.std.specs.Prelude.{Contains, Bool, true, Option, Some, None, slice_get, slice_index, slice_index_or}
+use Rattle.std.proofs.Common.{◌≡◌, ◌≢◌, ◌∙◌, ℕ, zero, suc, ◌+◌, ◌<◌, ◌≤◌, ◌++◌, List, [], ◌∷◌, length, flat_map, slice_set, drop, refl, ap, sym, arith, subst, append_assoc, get_or-set_other}
+use Rattle.std.specs.Prelude.{Contains, Bool, Option, Some, None, slice_get, slice_index, slice_index_or}
 use Rattle.std.specs.List.{AllByRecursion}
-use Rattle.std.proofs.lemmas.Bool.{cases_eq}
 use Rattle.spec_plans.proofs.Members.{Contains-here, Contains-later, times, times_some, hit_same}
-use Rattle.spec_states.specs.Delta.{Delta, is_identity}
+use Rattle.spec_states.specs.Delta.{Delta}
 use Rattle.spec_states.specs.ListenerDecl.{ListenerDecl}
 use Rattle.spec_states.specs.Plan.{Plan}
 use Rattle.spec_states.specs.Wave.{Deltas, delta_in}
@@ -57,9 +56,10 @@ once_more turn i within once =
 -- numbers of which none is there twice
 pub once_of : (ks : List ℕ) → ((k : ℕ) → times k ks ≤ 1) → AreOnce ks
 once_of [] few = tt
-once_of (k ∷ ks) few =
-    (λ there. absurd (omega (arith, few k, hit_same k k refl, times_some k ks there)),
-    once_of ks (λ j. omega (arith, few j)))
+once_of (k ∷ ks) few = (
+  λ there. absurd (omega (arith, few k, hit_same k k refl, times_some k ks there)),
+  once_of ks (λ j. omega (arith, few j)),
+)
 
 -- ---- as the definitions have it
 

@@ -146,7 +146,7 @@ fn tell_all(
     ensures capacity { vec_capacity told.new ≡ vec_capacity told.old }
     ensures fresh { All IsFresh told.old.items → All IsFresh told.new.items }
 {
-    for listener in turn {
-        tell(*listener, listeners, place, &mut deltas, told);
+    for index in 0..turn.len() {
+        tell(turn[index], listeners, place, &mut deltas, told);
     }
 }

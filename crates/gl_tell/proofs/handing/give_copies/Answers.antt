@@ -1,5 +1,4 @@
-use Rattle.std.proofs.Common.{◌∙◌, ◌<◌, length, take, ap, sym, subst, arith}
-use Rattle.gl_tell.specs.Handed.{AreGiven}
+use Rattle.std.proofs.Common.{length, take, arith}
 use Rattle.gl_tell.proofs.Handings.{given_none, given_more, take_next, below_at}
 use Rattle.gl_tell.proofs.handing.give_copies.Goals as goal
 

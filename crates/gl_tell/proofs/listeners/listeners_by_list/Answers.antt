@@ -1,4 +1,4 @@
-use Rattle.std.proofs.Common.{◌∙◌, ◌<◌, [], arith}
+use Rattle.std.proofs.Common.{◌∙◌, [], arith}
 use Rattle.std.specs.Prelude.{slice_index_or}
 use Rattle.gl_tell.proofs.ByList.{listeners_more, list_at}
 use Rattle.gl_tell.proofs.listeners.listeners_by_list.Goals as goal

@@ -1,4 +1,4 @@
-use Rattle.std.proofs.Common.{take, length}
+use Rattle.std.proofs.Common.{take}
 use Rattle.gl_tell.specs.Listeners.{AreByList}
 use Rattle.gl_tell.proofs.listeners.listeners_by_list.Given as goal
 

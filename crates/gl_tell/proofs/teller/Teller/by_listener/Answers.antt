@@ -5,9 +5,8 @@ use Rattle.std.proofs.lemmas.List.{get_or_default}
 use Rattle.spec_states.specs.Plan.{Plan}
 use Rattle.spec_runs.proofs.Ordered.{heard_within}
 use Rattle.gl_tell.specs.Listeners.{listeners_of}
-use Rattle.gl_tell.specs.Handed.{AreHanded}
 use Rattle.gl_tell.proofs.ByList.{listeners_below}
-use Rattle.gl_tell.proofs.Handings.{AreHandedTo, handed_none, handed_more, handed_all}
+use Rattle.gl_tell.proofs.Handings.{handed_none, handed_more, handed_all}
 use Rattle.gl_tell.proofs.teller.Teller.by_listener.Goals as goal
 
 pub loop-list-init : goal.loop-list-init
@@ -20,8 +19,15 @@ loop-list-init c =
 pub hand-requires-clause-list : goal.hand-requires-clause-list
 hand-requires-clause-list c =
     let plan : c.self.inside.plan ≡ c.args.self.now.plan = ap (λ t. t.plan) c.self.view_is in
-    omega (arith, c.loop-list-test.true, ap length c.deref-listeners-items.ensures.value, c.self.invariant.listeners.long,
-    ap (λ p. length p.lists) plan, c.requires, c.loop-list.invariant.many)
+    omega (
+      arith,
+      c.loop-list-test.true,
+      ap length c.deref-listeners-items.ensures.value,
+      c.self.invariant.listeners.long,
+      ap (λ p. length p.lists) plan,
+      c.requires,
+      c.loop-list.invariant.many,
+    )
 
 pub hand-requires-clause-known : goal.hand-requires-clause-known
 hand-requires-clause-known c =
@@ -62,7 +68,12 @@ returns c =
     let plan : w.plan ≡ c.args.self.now.plan = ap (λ t. t.plan) c.self.view_is in
     let On : Plan → Type 0 = λ p. AllByRecursion (λ d. d.list < length p.lists) p.listeners in
     let past : length c.args.self.now.plan.lists ≤ c.loop-list.list =
-    omega (arith, c.loop-list-test.false, ap length c.deref-listeners-items.ensures.value, c.self.invariant.listeners.long,
-    ap (λ p. length p.lists) plan) in
+    omega (
+      arith,
+      c.loop-list-test.false,
+      ap length c.deref-listeners-items.ensures.value,
+      c.self.invariant.listeners.long,
+      ap (λ p. length p.lists) plan,
+    ) in
     handed_all c.args.self.now.plan c.loop-list.list c.args.deltas c.loop-list.deltas c.loop-list.heard
     c.loop-list.invariant past (subst On plan (heard_within w.plan c.self.invariant.whole.formed))

@@ -1,9 +1,6 @@
-
 use Rattle.std.proofs.lemmas.List.Elements.{All-nil}
 use Rattle.spec_runs.proofs.Ordered.{heard_within}
-use Rattle.gl_plan.specs.Whole.{IsWhole}
 use Rattle.gl_tell.specs.Told.{IsFresh}
-use Rattle.gl_tell.specs.Teller.{IsTeller}
 use Rattle.gl_tell.proofs.teller.Teller.make.Goals as goal
 
 pub listeners_by_list-requires-clause-on : goal.listeners_by_list-requires-clause-on

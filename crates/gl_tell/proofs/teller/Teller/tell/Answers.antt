@@ -1,8 +1,7 @@
-use Rattle.std.proofs.Common.{◌≡◌, ◌∙◌, ◌<◌, ◌≤◌, ◌++◌, ℕ, List, length, ap, sym, subst, arith, vec_capacity}
+use Rattle.std.proofs.Common.{◌≡◌, ◌∙◌, ◌<◌, ◌++◌, length, ap, sym, subst, arith, vec_capacity}
 use Rattle.std.proofs.lemmas.List.{length-map}
 use Rattle.std.specs.List.{AllByRecursion}
 use Rattle.spec_plans.proofs.Prefixes.{prefix_once}
-use Rattle.spec_states.specs.ListenerDecl.{ListenerDecl}
 use Rattle.spec_states.specs.Plan.{Plan, listener_edges}
 use Rattle.spec_runs.specs.Telling.{tellings, listener_dependency_order}
 use Rattle.spec_runs.proofs.Ordered.{well_formed_listeners, listener_order_below, length-listener_dependency_order}
@@ -43,8 +42,15 @@ tell_all-requires-clause-room c =
     let turn : length c.listener_order-turn.result.now ≡ length w.plan.listeners =
     ap length c.listener_order-turn.ensures
     ∙ length-listener_dependency_order w.plan (well_formed_listeners w.plan whole.formed whole.acyclic) in
-    omega (arith, c.requires.reserved, turn, room, ap (λ p. length p.listeners) plan, ap length told,
-    length-map w.told.items telling_data)
+    omega (
+      arith,
+      c.requires.reserved,
+      turn,
+      room,
+      ap (λ p. length p.listeners) plan,
+      ap length told,
+      length-map w.told.items telling_data,
+    )
 
 pub invariant_of-self : goal.invariant_of-self
 invariant_of-self c = record {
