@@ -12,7 +12,6 @@ use Rattle.spec_reports.specs.Plan.{Plan, proxies_from}
 use Rattle.spec_reports.specs.Built.{is_built_kind, is_built}
 use Rattle.spec_reports.specs.Fits.{no_proxy, reason_of_proxy, reason_at}
 use Rattle.spec_reports.specs.Run.{run}
-use Rattle.spec_reports.proofs.Built.{built_lists}
 
 none_among : (number : ℕ) (ds : List ListDecl) → list_all (λ d. is_built_kind d.kind) ds ≡ true → proxies_from number ds ≡ []
 none_among number [] built = refl
@@ -28,4 +27,4 @@ none_among number (d ∷ ds) built =
 -- so there is no proxy that could take an entry
 pub no_proxy_at : (p : Plan) (order : List Actor) (n : ℕ) → is_built p ≡ true → Some no_proxy ≡ reason_at p order (Proxy n)
 no_proxy_at p order n built =
-    sym (ap (λ ks. reason_of_proxy (run p order).state (slice_get ks n)) (none_among 0 p.lists (built_lists p built)))
+    sym (ap (λ ks. reason_of_proxy (run p order).state (slice_get ks n)) (none_among 0 p.lists built))

@@ -1,5 +1,5 @@
--- What holds of each plan that a text spells: in every run each list shows its view of its inputs, and each listener hears
--- of its list.
+-- What holds of each plan that a text spells: in every run each list shows its view of its inputs, each listener hears of its
+-- list, and each is told after those that it depends on.
 use Rattle.std.proofs.Common.{ℕ, List, sym, subst}
 use Rattle.gl_outside.specs.declared.gate.Actor.{Actor}
 use Rattle.spec_reports.specs.Plan.{Plan}
@@ -7,10 +7,11 @@ use Rattle.spec_reports.specs.Shown.{EachShowsItsView}
 use Rattle.spec_reports.specs.WellFormed.{IsWellFormed}
 use Rattle.spec_reports.proofs.Sound.{sound_lines_well_formed}
 use Rattle.spec_reports.specs.Text.{SpellsPlan}
-use Rattle.spec_reports.specs.Laws.{EachHears}
+use Rattle.spec_reports.specs.Laws.{EachHears, EachToldAfterNeeded}
 use Rattle.spec_reports.specs.Run.{run}
 use Rattle.spec_reports.proofs.Heard.{hears_well_formed}
 use Rattle.spec_reports.proofs.Ordered.{views_of_run}
+use Rattle.spec_reports.proofs.ToldAfter.{told_after_needed}
 
 spelled_plan_formed : (bytes : List ℕ) (p : Plan) → SpellsPlan bytes p → IsWellFormed p
 spelled_plan_formed bytes p spells =
@@ -25,3 +26,7 @@ views_of_spelled bytes p order spells =
 -- and each listener hears of its list
 pub hears_of_spelled : (bytes : List ℕ) (p : Plan) → SpellsPlan bytes p → EachHears p
 hears_of_spelled bytes p spells = hears_well_formed p (spelled_plan_formed bytes p spells) spells.acyclic
+
+-- after those that it depends on
+pub in_turn_of_spelled : (bytes : List ℕ) (p : Plan) → SpellsPlan bytes p → EachToldAfterNeeded p
+in_turn_of_spelled bytes p spells = told_after_needed p (spelled_plan_formed bytes p spells) spells.acyclic

@@ -113,7 +113,7 @@ fn checks_say_what_stands_in_a_text(rt: HostRuntime) -> Result<(), Fail> {
 }
 
 /// Bytes, and the status and the text to which the replay of `w0` comes.
-const REPLAYS: [(&[u8], Status, &[u8]); 4] = [
+const REPLAYS: [(&[u8], Status, &[u8]); 5] = [
     (b"", Status::Plan, b"plan: line 1 column 1: header\n"),
     (
         b"glaze 1\nsource s\nfreezable f s\n",
@@ -126,10 +126,15 @@ const REPLAYS: [(&[u8], Status, &[u8]); 4] = [
         b"too-long s 2\n",
     ),
     (b"glaze 1", Status::Order, b"order: place 0: no-writer\n"),
+    (
+        b"glaze 1\nsource s\nlisten b on s after a\nlisten a on s echo\nwriter\nsection\nadd s 1\n",
+        Status::Done,
+        b"order w0\nat 0 w0\nreply 0 ok\ntold a insert 0 1\nrefused a write-back\ntold b insert 0 1\nlist s [1]\n",
+    ),
 ];
 
 #[test]
-fn replays_say_why_there_is_no_report(rt: HostRuntime) -> Result<(), Fail> {
+fn replays_come_to_one_text(rt: HostRuntime) -> Result<(), Fail> {
     let alloc = rt.alloc();
     for (plan, status, text) in REPLAYS {
         let (given, sink) = call(alloc, REPLAY, plan, Calls::new(alloc), 100)?;

@@ -14,7 +14,7 @@ use Rattle.spec_reports.specs.ValueText.{spelled_list}
 use Rattle.spec_reports.proofs.Plain.{IsPlainOwn}
 use Rattle.spec_reports.specs.Report.{line_feed, refused_lines, held_line, told_lines, told_first, told_later, entry_lines, list_lines, listener_name}
 use Rattle.spec_reports.specs.Event.{event_text}
-use Rattle.gl_world.specs.declared.telling.Telling.{Telling as Told}
+use Rattle.gl_world.specs.Telling.{Telling as Told}
 use Rattle.gl_world.specs.Told.{telling_data, tellings_of}
 use Rattle.gl_report.specs.Lines.{spelled_entry, list_line, told_line}
 

@@ -9,7 +9,6 @@ use Rattle.spec_states.specs.ListKind.{ListKind}
 use Rattle.spec_states.specs.ListKind.TheVariants as kinds
 use Rattle.spec_states.specs.Plan.{Plan}
 use Rattle.spec_runs.specs.Built.{is_built_kind, is_built}
-use Rattle.spec_runs.proofs.Built.{built_lists}
 use Rattle.gl_graph.specs.Opening.{IsKindBuilt, AreKindsBuilt}
 
 all_true : (xs : List ℕ) → All (λ x. ⊤) xs
@@ -44,4 +43,4 @@ all_built (first ∷ ds) e (suc k) d is =
     all_built ds parts.1 k d is
 
 pub kinds_built : (p : Plan) → is_built p ≡ true → AreKindsBuilt p.lists
-kinds_built p e = all_built p.lists (built_lists p e)
+kinds_built p e = all_built p.lists e

@@ -1,6 +1,6 @@
 -- A world with one entry more.
 use Rattle.std.proofs.Common.{◌≡◌, ◌≢◌, ◌∙◌, ℕ, ◌+◌, ◌<◌, ◌++◌, true, List, [], ◌∷◌, length, refl, ap, sym, arith, inl, inr, subst, slice_set, length-set, get_or-set_same, get_or-set_other, eq-eqb, append_assoc, append-nil}
-use Rattle.std.specs.Prelude.{Option, Some, None, slice_index, All, nat_lt}
+use Rattle.std.specs.Prelude.{Option, Some, None, slice_index, nat_lt}
 use Rattle.std.specs.List.{AllByRecursion}
 use Rattle.std.proofs.lemmas.Bool.{cases_eq, ne_eqb}
 use Rattle.std.proofs.lemmas.Bool.Decides.{nat_tests}
@@ -17,23 +17,24 @@ use Rattle.spec_states.specs.Laws.{IsSound}
 use Rattle.spec_states.proofs.Views.{length-table_of}
 use Rattle.spec_runs.specs.Kinds.{IsFor}
 use Rattle.spec_runs.specs.Section.{state_after, replies_to, section_deltas}
-use Rattle.spec_runs.specs.Telling.{Telling as TellingData, tellings, listener_dependency_order}
+use Rattle.spec_runs.specs.Telling.{tellings}
 use Rattle.spec_runs.specs.Entry.{taken_by}
 use Rattle.spec_runs.specs.Fits.{Fits, BadPlace, Reason, reason_at, bad_place_from}
 use Rattle.spec_runs.specs.Run.{run}
 use Rattle.spec_runs.proofs.Runs.{state_more, replies_more, told_more, taken_more}
 use Rattle.spec_runs.proofs.KeptKinds.{length-state, within_entry_kinds}
-use Rattle.spec_runs.proofs.Ordered.{run_sound, heard_within, well_formed_listeners, listener_order_below}
+use Rattle.spec_runs.proofs.Ordered.{run_sound, heard_within}
 use Rattle.spec_runs.proofs.Suits.{commands_suit}
 use Rattle.spec_runs.proofs.Built.{built_state_more}
 use Rattle.gl_graph.specs.Graph.{Kept, state_of}
 use Rattle.gl_graph.specs.Waves.{Contents, contents}
 use Rattle.gl_graph.proofs.Progress.{contents_same_state}
-use Rattle.gl_world.specs.declared.telling.Telling.{Telling}
-use Rattle.gl_world.specs.Told.{tellings_of, all_pieces, told_all, IsFresh}
+use Rattle.gl_tell.specs.Teller.{TellerModel}
+use Rattle.gl_tell.specs.Heard.{AreHeard}
+use Rattle.gl_tell.specs.Handed.{AreHanded}
 use Rattle.gl_world.specs.Section.{AreDeltas}
 use Rattle.gl_world.specs.World.{IsWorld}
-use Rattle.gl_world.proofs.Tellings.{told_same}
+use Rattle.gl_world.proofs.Tellings.{heard_of}
 use Rattle.spec_runs.proofs.Finish.{may_take}
 
 -- ---- orders that fit
@@ -89,25 +90,24 @@ pub record Inside : Type 0 where
   pub order : List Actor
   pub graph : Kept
   pub replies : List (List Reply)
-  pub told : List Telling
+  pub teller : TellerModel
   pub taken : List ℕ
 
 abbrev pub Stands : Inside → Type 0
-Stands i = IsWorld i.plan i.order i.graph i.replies i.told i.taken
+Stands i = IsWorld i.plan i.order i.graph i.replies i.teller i.taken
 
 -- a section of a writer was taken, and written down
-pub world_more : (i : Inside) (new : Kept) (mine : List Reply) (all : List Telling) (more : List TellingData)
-    (w section : ℕ)
+pub world_more : (i : Inside) (new : Kept) (mine : List Reply) (teller : TellerModel) (w section : ℕ)
     → Stands i → w < length i.plan.writers → section ≡ taken_by w i.order
     → section < length (sections_of i.plan w)
     → new.limit ≡ i.graph.limit
     → state_of new ≡ state_after i.graph.limit (state_of i.graph) (commands_of i.plan w section)
     → mine ≡ replies_to i.graph.limit (state_of i.graph) (commands_of i.plan w section)
-    → tellings_of all ≡ tellings_of i.told ++ more
-    → more ≡ tellings i.plan (length i.order) (section_deltas i.graph.limit (state_of i.graph) (commands_of i.plan w section))
-    → All IsFresh all
-    → IsWorld i.plan (i.order ++ Writer w ∷ []) new (i.replies ++ mine ∷ []) all (slice_set i.taken w (section + 1))
-world_more i new mine all more w section world there section_is left limit state_is mine_is all_is more_is fresh =
+    → teller.plan ≡ i.teller.plan
+    → teller.told ≡ i.teller.told
+    ++ tellings i.plan (length i.order) (section_deltas i.graph.limit (state_of i.graph) (commands_of i.plan w section))
+    → IsWorld i.plan (i.order ++ Writer w ∷ []) new (i.replies ++ mine ∷ []) teller (slice_set i.taken w (section + 1))
+world_more i new mine teller w section world there section_is left limit state_is mine_is plan_is told_is =
     let p : Plan = i.plan in
     let order : List Actor = i.order in
     record {
@@ -118,27 +118,26 @@ world_more i new mine all more w section world there section_is left limit state
       state = state_is ∙ rw (section_is, world.limit, world.state) (sym (built_state_more p order w world.built));
       limit = limit ∙ world.limit;
       answers = rw (mine_is, section_is, world.limit, world.state, world.answers) (sym (replies_more p order (Writer w)));
-      tellings = all_is ∙ ap (λ ts. ts ++ more) world.tellings
-          ∙ ap (λ ts. (run p order).told ++ ts) (more_is ∙ rw (section_is, world.limit, world.state) refl)
-          ∙ sym (told_more p order (Writer w));
-      fresh = fresh;
+      listeners = plan_is ∙ world.listeners;
+      tellings = told_is ∙ rw (section_is, world.limit, world.state, world.tellings) (sym (told_more p order (Writer w)));
       writers = length-set i.taken w (section + 1) ∙ world.writers;
       sections = λ k within. rw section_is (counted order i.taken w k (omega (arith, there, world.writers))
           (world.sections w there) (world.sections k within));
     }
 
 -- a section was taken back
-pub world_back : (i : Inside) (new : Kept) → Stands i → contents new ≡ contents i.graph
-    → IsWorld i.plan i.order new i.replies i.told i.taken
-world_back i new world same = record {
+pub world_back : (i : Inside) (new : Kept) (teller : TellerModel) → Stands i → contents new ≡ contents i.graph
+    → teller.plan ≡ i.teller.plan → teller.told ≡ i.teller.told
+    → IsWorld i.plan i.order new i.replies teller i.taken
+world_back i new teller world same plan_is told_is = record {
   whole = world.whole;
   built = world.built;
   fits = world.fits;
   state = contents_same_state new i.graph same ∙ world.state;
   limit = ap (λ (c : Contents). c.limit) same ∙ world.limit;
   answers = world.answers;
-  tellings = world.tellings;
-  fresh = world.fresh;
+  listeners = plan_is ∙ world.listeners;
+  tellings = told_is ∙ world.tellings;
   writers = world.writers;
   sections = world.sections;
 }
@@ -165,17 +164,11 @@ world_heard i world =
     subst (λ n. AllByRecursion (λ d. d.list < n) i.plan.listeners)
     (sym (length-table_of (state_of i.graph) ∙ world_lists i world)) (heard_within i.plan world.whole.formed)
 
-pub world_order : (i : Inside) → Stands i
-    → AllByRecursion (λ k. k < length i.plan.listeners) (listener_dependency_order i.plan)
-world_order i world =
-    listener_order_below i.plan (well_formed_listeners i.plan world.whole.formed world.whole.acyclic)
-
--- what was told is what the definitions say
-pub world_told : (i : Inside) (commands : List Command) (deltas : List (Option DeltaModel)) → Stands i
+-- the deltas handed to its listeners are those of the section
+pub world_told : (i : Inside) (commands : List Command) (deltas heard : List (Option DeltaModel)) → Stands i
     → AreDeltas (table_of (state_of i.graph)) (section_deltas i.graph.limit (state_of i.graph) commands) deltas
-    → told_all i.plan.listeners (length i.order) (all_pieces deltas) (listener_dependency_order i.plan)
-    ≡ tellings i.plan (length i.order) (section_deltas i.graph.limit (state_of i.graph) commands)
-world_told i commands deltas world are =
+    → AreHanded i.plan deltas heard
+    → AreHeard i.plan (section_deltas i.graph.limit (state_of i.graph) commands) heard
+world_told i commands deltas heard world are handed =
     let s : State = state_of i.graph in
-    told_same i.plan.listeners (length i.order) (table_of s) (section_deltas i.graph.limit s commands) deltas
-    (listener_dependency_order i.plan) are (world_heard i world)
+    heard_of i.plan (table_of s) (section_deltas i.graph.limit s commands) deltas heard are handed (world_heard i world)

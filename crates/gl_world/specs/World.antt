@@ -1,5 +1,5 @@
 -- What a world keeps of its plan and order: all that their run gives.
-use Rattle.std.specs.Prelude.{◌≡◌, ◌<◌, ℕ, true, List, length, slice_index, All}
+use Rattle.std.specs.Prelude.{◌≡◌, ◌<◌, ℕ, true, List, length, slice_index}
 use Rattle.gl_plan.specs.Whole.{IsWhole}
 use Rattle.gl_outside.specs.declared.gate.Actor.{Actor}
 use Rattle.spec_states.specs.Reply.{Reply}
@@ -9,11 +9,10 @@ use Rattle.spec_runs.specs.Entry.{taken_by}
 use Rattle.spec_runs.specs.Run.{run}
 use Rattle.spec_runs.specs.Fits.{Fits}
 use Rattle.gl_graph.specs.Graph.{Kept, state_of}
-use Rattle.gl_world.specs.declared.telling.Telling.{Telling}
-use Rattle.gl_world.specs.Told.{tellings_of, IsFresh}
+use Rattle.gl_tell.specs.Teller.{TellerModel}
 
 pub record IsWorld (p : Plan) (order : List Actor) (graph : Kept) (replies : List (List Reply))
-    (told : List Telling)
+    (teller : TellerModel)
     (taken : List ℕ) : Type 0 where
   pub whole : IsWhole p
   pub built : is_built p ≡ true
@@ -21,7 +20,7 @@ pub record IsWorld (p : Plan) (order : List Actor) (graph : Kept) (replies : Lis
   pub state : state_of graph ≡ (run p order).state
   pub limit : graph.limit ≡ p.limit
   pub answers : replies ≡ (run p order).replies
-  pub tellings : tellings_of told ≡ (run p order).told
-  pub fresh : All IsFresh told
+  pub listeners : teller.plan ≡ p
+  pub tellings : teller.told ≡ (run p order).told
   pub writers : length taken ≡ length p.writers
   pub sections : (w : ℕ) → w < length p.writers → slice_index taken w ≡ taken_by w order

@@ -10,13 +10,11 @@ mod log;
 mod next;
 mod section;
 mod show;
-mod telling;
 mod world;
 
-pub use gl_event::Event;
 pub use gl_graph::BuildFault;
 pub use gl_outside::Actor;
 pub use gl_plan::Reply;
+pub use gl_tell::{Event, Telling};
 pub use next::{Next, Spent};
-pub use telling::Telling;
 pub use world::{RunName, World};

@@ -10,17 +10,17 @@ ghost use Rattle.spec_runs.specs.Fits.{Fits};
 ghost use Rattle.spec_runs.specs.Run.{run, left_to, replies_at, shown_after};
 ghost use Rattle.spec_runs.specs.Telling.{listener_dependency_order};
 ghost use Rattle.gl_graph.specs.Build.{IsReason};
-ghost use Rattle.gl_world.specs.Told.{tellings_of, IsFresh};
+ghost use Rattle.gl_tell.specs.Told.{tellings_of, IsFresh};
 
 use crate::back::retreat_all;
 use crate::log::Log;
 use crate::next::{Next, Spent};
 use crate::section::{Taken, take_all};
-use crate::telling::Telling;
 use gl_graph::{BuildFault, Graph};
 use gl_outside::Actor;
 use gl_plan::{Plan, Reply};
-use gl_value::{Items, Memory, Steps, Value};
+use gl_tell::{Teller, Telling};
+use gl_value::{Memory, Steps, Value};
 use std::alloc::Global;
 use std::marker::{Model, PhantomData};
 use std::sync::ledger::Ledger;
@@ -35,6 +35,7 @@ pub struct World<N: RunName> {
     plan: Plan,
     graph: Graph,
     log: Log,
+    teller: Teller,
     taken: Vec<usize>,
     name: PhantomData<N>,
 }
@@ -53,7 +54,7 @@ impl<N: RunName> Model for World<N> {
 
     ghost view = { λ w. record { plan = w.plan; order = w.log.order.items } };
 
-    ghost invariant = { λ w. IsWorld w.plan w.log.order.items w.graph w.log.replies w.log.told.items w.taken.items };
+    ghost invariant = { λ w. IsWorld w.plan w.log.order.items w.graph w.log.replies.items w.teller w.taken.items };
 }
 
 impl<N: RunName> World<N> {
@@ -68,12 +69,14 @@ impl<N: RunName> World<N> {
     {
         let taken = vec![in alloc; 0usize; plan.writers() as usize]?;
         let copy = plan.copy(alloc)?;
+        let teller = Teller::make(alloc, plan)?;
         let graph = Graph::build(alloc, plan)?;
         Ok(World {
             alloc,
             plan: copy,
             graph,
             log: Log::new(alloc),
+            teller,
             taken,
             name: PhantomData,
         })
@@ -111,14 +114,14 @@ impl<N: RunName> World<N> {
         ensures told { tellings_of result.now ≡ (run self.now.plan self.now.order).told }
         ensures fresh { All IsFresh result.now }
     {
-        self.log.told.as_slice()
+        self.teller.told()
     }
 
     /// The listeners in the order in which they are told at an entry.
     pub fn turn(&self) -> &[u32]
         ensures { result.now ≡ listener_dependency_order self.now.plan }
     {
-        self.plan.listener_order()
+        self.teller.turn()
     }
 
     /// How many sections a writer has left.
@@ -151,8 +154,9 @@ impl<N: RunName> World<N> {
         self.graph.get(list, place)
     }
 
-    /// Takes a writer's next section, as one entry; its place among the entries is answered. A section that finds no
-    /// memory goes back by the undos of its commands. It takes memory for its replies, its tellings and its changes.
+    /// Takes a writer's next section, as one entry; its place among the entries is answered. The room for its entry and its
+    /// tellings is made first; it then takes memory for its replies and its changes, and for a copy of what each listener
+    /// but the last of a list is told. A section that finds none goes back by the undos of its commands.
     pub fn section<L: Ledger>(
         &mut self,
         writer: u32,
@@ -169,6 +173,8 @@ impl<N: RunName> World<N> {
                 name: PhantomData,
             }));
         }
+        self.teller.reserve()?;
+        self.log.reserve()?;
         let taken = take_all(
             self.alloc,
             &mut self.graph,
@@ -181,16 +187,11 @@ impl<N: RunName> World<N> {
             deltas,
             undos,
         } = taken;
-        let place = self.log.order.len() as u64;
-        match self.log.enter(
-            self.alloc,
-            self.plan.listeners(),
-            self.plan.listener_order(),
-            Actor::Writer(writer),
-            replies,
-            &deltas,
-        ) {
-            Ok(()) => {
+        match self.teller.by_listener(deltas) {
+            Ok(heard) => {
+                let place = self.log.order.len() as u64;
+                self.log.add(Actor::Writer(writer), replies);
+                self.teller.tell(place, heard);
                 self.taken[writer as usize] = section + 1;
                 Ok(Next::Some(place))
             }

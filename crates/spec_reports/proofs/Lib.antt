@@ -10,4 +10,5 @@ pub use Rattle.spec_runs.proofs.Built
 pub use Rattle.spec_plan_texts.proofs.Rewritten
 pub use Rattle.spec_plans.proofs.Sound
 pub use Rattle.spec_runs.proofs.Heard
+pub use Rattle.spec_runs.proofs.ToldAfter
 pub use Rattle.spec_runs.proofs.Ordered

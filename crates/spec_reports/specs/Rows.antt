@@ -8,7 +8,7 @@ use Rattle.gl_lines.specs.declared.plan.Command.TheVariants.{Match, Set}
 use Rattle.gl_lines.specs.declared.plan.ListKind.TheVariants as kinds
 use Rattle.spec_plans.specs.Plan.{Plan}
 use Rattle.spec_runs.specs.Fits.{no_section}
-use Rattle.spec_runs.specs.Rows.{short, watched, pair, number_above, told_after}
+use Rattle.spec_runs.specs.Rows.{short, watched, pair, number_above}
 use Rattle.spec_reports.specs.Order.{spelled_order}
 use Rattle.spec_reports.specs.Event.{changes_text}
 use Rattle.spec_reports.specs.Report.{report}
@@ -68,5 +68,17 @@ short_again_text : text_of_outcome (misfit (record { place = 1; reason = no_sect
 unfolding digits
 short_again_text = refl
 
-told_after_answer : replayed told_after [] ≡ unbuilt
-told_after_answer = refl
+-- a proxy isn't built yet
+abbrev proxied : Plan
+proxied = record {
+  limit = 1;
+  lists =
+      record { name = codes "s"; kind = kinds.Source [] }
+      ∷ record { name = codes "p"; kind = kinds.Proxy 0 }
+      ∷ [];
+  listeners = [];
+  writers = [];
+}
+
+proxied_answer : replayed proxied [] ≡ unbuilt
+proxied_answer = refl

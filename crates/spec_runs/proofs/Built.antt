@@ -17,15 +17,10 @@ use Rattle.spec_states.specs.Wave.{Deltas, delta_in}
 use Rattle.spec_runs.specs.Section.{state_after, section_deltas}
 use Rattle.spec_runs.specs.Entry.{taken_by, queued_own, queued}
 use Rattle.spec_runs.specs.Run.{run}
-use Rattle.spec_runs.specs.Built.{is_built_kind, is_built_listener, is_built}
+use Rattle.spec_runs.specs.Built.{is_built_kind, is_built}
 use Rattle.spec_runs.specs.Kinds.{kind_of, KeepsKinds}
 use Rattle.spec_runs.proofs.Runs.{state_more}
 use Rattle.spec_runs.proofs.KeptKinds.{run_kinds, after_keeps, keeps_on}
-
-pub built_lists : (p : Plan) → is_built p ≡ true
-    → list_all (λ d. is_built_kind d.kind) p.lists ≡ true
-built_lists p e =
-    (and_parts (list_all (λ d. is_built_kind d.kind) p.lists) (list_all is_built_listener p.listeners) e).0
 
 -- a list that is no proxy
 abbrev pub IsUnqueued : Own → Type 0
@@ -87,7 +82,7 @@ pub built_unqueued : (p : Plan) (s : State) → is_built p ≡ true → KeepsKin
     → (list : ℕ) → IsUnqueued (own_at s list)
 built_unqueued p s built keeps list =
     unqueued_kind (own_at s list) (subst IsUnqueued (sym (keeps.kinds list))
-    (kind_unqueued (own_at (opening p) list) (built_at (shown_first p) p.lists (built_lists p built) list)))
+    (kind_unqueued (own_at (opening p) list) (built_at (shown_first p) p.lists built list)))
 
 -- so the state after one section more is that after its commands
 pub built_state_more : (p : Plan) (order : List Actor) (w : ℕ) → is_built p ≡ true

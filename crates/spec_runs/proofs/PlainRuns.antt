@@ -17,7 +17,6 @@ use Rattle.spec_states.proofs.Plain.{IsPlainOwn, IsPlain, plain_free}
 use Rattle.spec_runs.specs.Kinds.{kind_of, KeepsKinds}
 use Rattle.spec_runs.specs.Run.{run}
 use Rattle.spec_runs.proofs.KeptKinds.{run_kinds}
-use Rattle.spec_runs.proofs.Built.{built_lists}
 
 plain_by_kind : (own : Own) → IsPlainOwn (kind_of own) → IsPlainOwn own
 plain_by_kind (source contents) h = tt
@@ -62,7 +61,7 @@ pub built_plain : (p : Plan) (s : State) → is_built p ≡ true → KeepsKinds 
 built_plain p s built keeps list =
     plain_by_kind (own_at s list)
     (subst IsPlainOwn (sym (keeps.kinds list))
-    (kind_plain (own_at (opening p) list) (all_plain (shown_first p) p.lists list (built_lists p built))))
+    (kind_plain (own_at (opening p) list) (all_plain (shown_first p) p.lists list built)))
 
 pub run_plain : (p : Plan) (order : List Actor) → is_built p ≡ true → IsPlain (run p order).state
 run_plain p order built = built_plain p (run p order).state built (run_kinds p order)

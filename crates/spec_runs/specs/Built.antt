@@ -1,10 +1,9 @@
--- Which plans a replay can take: those whose lists and listeners are of the kinds that are built. A command that isn't
--- built is about a list that isn't.
-use Rattle.std.specs.Prelude.{◌==◌, ◌&&◌, Bool, true, false, not, length}
+-- Which plans a replay can take: those whose lists are of the kinds that are built. A command that isn't built is about a
+-- list that isn't.
+use Rattle.std.specs.Prelude.{Bool, true, false}
 use Rattle.std.specs.List.{list_all}
 use Rattle.gl_lines.specs.declared.plan.ListKind.{ListKind}
 use Rattle.gl_lines.specs.declared.plan.ListKind.TheVariants.{Source, Filter, Sorted, Range, Function, Collection, Composite}
-use Rattle.gl_lines.specs.declared.plan.ListenerDecl.{ListenerDecl}
 use Rattle.spec_plans.specs.Plan.{Plan}
 
 abbrev pub is_built_kind : ListKind → Bool
@@ -17,9 +16,5 @@ is_built_kind (Collection input kids) = true
 is_built_kind (Composite members may) = true
 is_built_kind other = false
 
--- a listener that is told after no other, and writes nothing back
-abbrev pub is_built_listener : ListenerDecl → Bool
-is_built_listener d = length d.after == 0 && not d.echo
-
 abbrev pub is_built : Plan → Bool
-is_built p = list_all (λ d. is_built_kind d.kind) p.lists && list_all is_built_listener p.listeners
+is_built p = list_all (λ d. is_built_kind d.kind) p.lists

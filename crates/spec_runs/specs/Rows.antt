@@ -158,9 +158,9 @@ told_after_told :
     ∷ []
 told_after_told = refl
 
--- a listener that is told after another isn't built yet
-told_after_not_built : is_built told_after ≡ false
-told_after_not_built = refl
+-- listeners of all kinds are built
+told_after_is_built : is_built told_after ≡ true
+told_after_is_built = refl
 
 -- an echo listener tries to write back once in each telling
 abbrev echoed : Plan

@@ -8,7 +8,7 @@ use Rattle.spec_reports.specs.Run.{run}
 use Rattle.spec_reports.specs.Telling.{Telling}
 use Rattle.spec_reports.proofs.Runs.{length-replies}
 use Rattle.spec_reports.specs.Report.{told_lines, told_first, told_later, entry_lines}
-use Rattle.gl_world.specs.declared.telling.Telling.{Telling as Told}
+use Rattle.gl_world.specs.Telling.{Telling as Told}
 use Rattle.gl_world.specs.Told.{tellings_of}
 use Rattle.gl_report.specs.Lines.{spelled_entry}
 use Rattle.gl_report.proofs.Lines.{entry_more}

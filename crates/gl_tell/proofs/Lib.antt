@@ -1,0 +1,4 @@
+pub mod ByList
+pub mod Handings
+pub mod Turns
+pub mod Tellings

@@ -1,0 +1,5 @@
+pub mod Told
+pub mod Heard
+pub mod Handed
+pub mod Listeners
+pub mod Teller
