@@ -1,0 +1,3 @@
+pub mod OldElements
+pub mod LevelLists
+pub mod Retreats

@@ -1,0 +1,6 @@
+pub mod Levels
+pub mod Kept
+pub mod Copied
+pub mod Back
+pub mod CopiedBack
+pub mod Rows
