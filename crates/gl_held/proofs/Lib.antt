@@ -1,3 +1,4 @@
 pub mod OldElements
 pub mod LevelLists
 pub mod Retreats
+pub mod Copies
