@@ -1,5 +1,5 @@
 -- What an element of a delta's old list is, by what the delta tells of it: an element of the new list, or a value.
-use Rattle.std.proofs.Common.{◌≡◌, ◌∙◌, ℕ, zero, suc, ◌+◌, ◌<◌, List, [], ◌∷◌, map, refl, ap, sym, arith, inl, inr}
+use Rattle.std.proofs.Common.{◌≡◌, ◌∙◌, ℕ, zero, suc, ◌+◌, ◌<◌, List, [], ◌∷◌, map, refl, ap, sym, arith, inl, inr, Bor}
 use Rattle.std.specs.List.{slice_get}
 use Rattle.std.specs.Prelude.{Some}
 use Rattle.std.proofs.lemmas.Option.{same_Some}
@@ -106,7 +106,7 @@ told (inserted w ∷ ps) [] i position x v leads e t = absurd leads
 told (inserted w ∷ ps) (y ∷ ys) i position x v leads e t = told ps ys (suc i) position x v leads.1 e t
 
 -- and of one that wasn't the value is told
-pub value_there : (d : List Piece) (ys : List Tree) (position : ℕ) (v : _) → LeadsTo d ys
+pub value_there : (d : List Piece) (ys : List Tree) (position : ℕ) (v : Bor Tree) → LeadsTo d ys
     → IsOldAt (olds 0 d) position (Value v)
     → Some v.now ≡ slice_get (undone d ys) position
 value_there d ys position v leads (inl e) = sym (told d ys 0 position (lone v.now) v.now leads e refl)

@@ -1,4 +1,5 @@
 pub mod Levels
+pub mod Parts
 pub mod Kept
 pub mod Copied
 pub mod Back

@@ -24,7 +24,7 @@ use std::mem;
 #[derive(Drop)]
 pub struct Freezable {
     alloc: Global,
-    since: Option<Composition>,
+    pub(crate) since: Option<Composition>,
 }
 
 impl Model for Freezable {

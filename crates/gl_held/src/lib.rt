@@ -6,6 +6,7 @@ mod composition;
 mod fault;
 mod freezable;
 mod levels;
+mod parts;
 mod proxy;
 mod transaction;
 mod undo;

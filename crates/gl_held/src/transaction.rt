@@ -25,7 +25,7 @@ use std::marker::Model;
 #[derive(Drop)]
 pub struct Transaction {
     alloc: Global,
-    levels: Levels,
+    pub(crate) levels: Levels,
 }
 
 impl Model for Transaction {
@@ -130,13 +130,7 @@ impl Transaction {
         ensures room { self.old.room ≤ self.new.room }
     {
         let d = self.levels.level(0).delta()?;
-        let level = self.levels.take();
-        Ok((
-            Closed::Outer(d),
-            HeldUndo {
-                way: Way::Levels(LevelStep::Closed(level)),
-            },
-        ))
+        Ok((Closed::Outer(d), self.drop_level()))
     }
 
     // The innermost of several levels is composed into the next outer one.
@@ -171,13 +165,20 @@ impl Transaction {
             return Err(CloseFault::NotOpen);
         }
         let d = self.levels.level(0).delta()?.inverse();
+        Ok((d, self.drop_level()))
+    }
+
+    // Drops the innermost level.
+    fn drop_level(&mut self) -> HeldUndo
+        requires { 0 < length self.old.levels }
+        ensures levels { self.new.levels ≡ drop 1 self.old.levels }
+        ensures undo { IsUndo result self.old self.new }
+        ensures room { self.new.room ≡ self.old.room }
+    {
         let level = self.levels.take();
-        Ok((
-            d,
-            HeldUndo {
-                way: Way::Levels(LevelStep::Closed(level)),
-            },
-        ))
+        HeldUndo {
+            way: Way::Levels(LevelStep::Closed(level)),
+        }
     }
 
     /// Goes back to where the transaction stood before its last change, whose undo this is. It takes no memory.

@@ -3,7 +3,7 @@ use Rattle.spec_lists.specs.Delta.{Delta}
 use Rattle.gl_held.specs.Kept.{Kept}
 use Rattle.gl_held.specs.Levels.{AreJoined}
 use Rattle.gl_held.proofs.Retreats.{closed_back}
-use Rattle.gl_held.proofs.transaction.Transaction.commit_outermost.Goals as goal
+use Rattle.gl_held.proofs.transaction.Transaction.drop_level.Goals as goal
 
 pub returns-clause-undo : goal.returns-clause-undo
 returns-clause-undo c =
