@@ -1,0 +1,6 @@
+pub mod OldElements
+pub mod LevelLists
+pub mod Retreats
+pub mod Copies
+pub mod PartLists
+pub mod PartElements
