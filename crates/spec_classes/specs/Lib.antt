@@ -1,0 +1,4 @@
+pub mod Meetings
+pub mod Slots
+pub mod Members
+pub mod Told
