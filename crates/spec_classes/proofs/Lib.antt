@@ -1,2 +1,5 @@
 pub mod Meets
 pub mod Members
+pub mod PlainPairs
+pub mod Keys
+pub mod Slots
