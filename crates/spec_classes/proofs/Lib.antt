@@ -3,3 +3,4 @@ pub mod Members
 pub mod PlainPairs
 pub mod Keys
 pub mod Slots
+pub mod Unique

@@ -14,6 +14,7 @@ use Rattle.spec_views.specs.Arrangement.{Comparison, is_before, arrangement, mar
 use Rattle.spec_views.specs.Classes.{Class, first_of, has_key_of, with_member, classes_among, classes}
 use Rattle.spec_views.proofs.SortedPositions.{Every, Sorted}
 use Rattle.spec_views.proofs.Arrangements.{before_cases, arrangement_is, sorted_arrangement}
+use Rattle.spec_sorting.specs.Moves.{IsRising}
 use Rattle.spec_sorting.proofs.Partners.{each_weaker}
 use Rattle.spec_classes.specs.Members.{joined, first_marks, firsts, IsClass, KeysRise, AreClasses}
 
@@ -54,6 +55,7 @@ module _ (compare : Comparison) (o : IsTotalOrder compare) (xs : List Tree) wher
             others = k ∷ ks;
             are = refl;
             tied = ((tied, less), all_tied tied less g.each.0);
+            in_order = (omega (arith, less), order_on g.each.0);
           }, g.each.1);
         rise = (each_weaker _ _ (λ e more. less_on i k (first_of e) before more) cs g.rise.0, g.rise.1);
         marks = rw same (both true false (map not (marks_after compare xs k is)) (map (λ j. false) ks ++ firsts cs) (tail g.marks));
@@ -78,6 +80,15 @@ module _ (compare : Comparison) (o : IsTotalOrder compare) (xs : List Tree) wher
               each_weaker (λ j. (compare (element_at xs k) (element_at xs j) ≡ Equal) × (k < j)) (λ j. (compare (element_at xs i) (element_at xs j) ≡ Equal) × (i < j))
               (λ j t. (o.congr _ _ (element_at xs j) tied ∙ t.0, omega (arith, less, t.1))) ks here
 
+      order_on : IsClass compare xs (k ∷ ks) → IsRising (suc k) ks
+      order_on c = by c.first c.others c.are c.in_order
+        where
+          by : (f : ℕ) (fs : List ℕ) → k ∷ ks ≡ f ∷ fs → IsRising (suc f) fs → IsRising (suc k) ks
+          by f fs e h =
+              let heads : f ≡ k = cc in
+              let tails : fs ≡ ks = cc in
+              subst (λ js. IsRising (suc k) js) tails (subst (λ m. IsRising (suc m) fs) heads h)
+
       both : (t u : Bool) (us vs : List Bool) → us ≡ vs → t ∷ u ∷ us ≡ t ∷ u ∷ vs
       both t u us vs e = cc
 
@@ -91,7 +102,7 @@ module _ (compare : Comparison) (o : IsTotalOrder compare) (xs : List Tree) wher
       let less : compare (element_at xs i) (element_at xs k) ≡ Less = strictly before in
       record {
         whole = ap (λ js. i ∷ js) g.whole;
-        each = (record { first = i; others = []; are = refl; tied = tt }, g.each);
+        each = (record { first = i; others = []; are = refl; tied = tt; in_order = tt }, g.each);
         rise = ((less, each_weaker _ _ (λ e more. less_on i k (first_of e) before more) cs g.rise.0), g.rise);
         marks = rw other (ap (λ ms. true ∷ ms) g.marks);
       }
@@ -125,7 +136,7 @@ module _ (compare : Comparison) (o : IsTotalOrder compare) (xs : List Tree) wher
   all_classes [] s = record { whole = refl; each = tt; rise = tt; marks = refl }
   all_classes (i ∷ []) s = record {
     whole = refl;
-    each = (record { first = i; others = []; are = refl; tied = tt }, tt);
+    each = (record { first = i; others = []; are = refl; tied = tt; in_order = tt }, tt);
     rise = (tt, tt);
     marks = refl;
   }

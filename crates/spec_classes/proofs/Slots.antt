@@ -54,7 +54,7 @@ none_meets P [] = tt
 none_meets P (e ∷ es) = none_meets P es
 
 module _ (key : Class → Class → Bool) (P Q : Class → Type 0) where
-  abbrev Here : Class → Class → Type 0
+  abbrev pub Here : Class → Class → Type 0
   Here c e = P c × (Q e × (key c e ≡ true))
 
   met_all : (c : Class) (cs : List Class) → P c → ((us : List Class) → Each Q us → AllMeet Here (meetings_by key cs us))

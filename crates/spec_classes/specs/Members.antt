@@ -1,11 +1,12 @@
 -- How the classes of a list lie in its sorted order.
-use Rattle.std.specs.Prelude.{◌≡◌, ◌<◌, ◌++◌, ℕ, Bool, true, false, not, List, [], ◌∷◌, map}
+use Rattle.std.specs.Prelude.{◌≡◌, ◌<◌, ◌++◌, ℕ, suc, Bool, true, false, not, List, [], ◌∷◌, map}
 use Rattle.std.specs.List.{AllByRecursion}
 use Rattle.std.specs.declared.cmp.Ordering.TheVariants.{Less, Equal}
 use Rattle.spec_value.specs.Tree.{Tree}
 use Rattle.spec_views.specs.Source.{element_at}
 use Rattle.spec_views.specs.Arrangement.{Comparison, same_key_marks}
 use Rattle.spec_views.specs.Classes.{Class, first_of}
+use Rattle.spec_sorting.specs.Moves.{IsRising}
 
 -- the members of classes, one class after another
 abbrev pub joined : List Class → List ℕ
@@ -22,13 +23,14 @@ abbrev pub firsts : List Class → List Bool
 firsts [] = []
 firsts (c ∷ cs) = first_marks c ++ firsts cs
 
--- the members have one key, and the first stands before all others
+-- the members have one key and stand in source order
 pub record IsClass (compare : Comparison) (xs : List Tree) (c : Class) : Type 0 where
   pub first : ℕ
   pub others : List ℕ
   pub are : c ≡ first ∷ others
   pub tied : AllByRecursion
       (λ i. (compare (element_at xs first) (element_at xs i) ≡ Equal) × (first < i)) others
+  pub in_order : IsRising (suc first) others
 
 -- the keys of classes rise
 abbrev pub KeysRise : Comparison → List Tree → List Class → Type 0
