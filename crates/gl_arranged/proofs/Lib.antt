@@ -2,4 +2,5 @@ pub mod Ranks
 pub mod Notes
 pub mod Lists
 pub mod Backward
+pub mod MarkSteps
 pub use Rattle.spec_lang.proofs.Sortings

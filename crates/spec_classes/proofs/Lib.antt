@@ -4,3 +4,4 @@ pub mod PlainPairs
 pub mod Keys
 pub mod Slots
 pub mod Unique
+pub mod Kept

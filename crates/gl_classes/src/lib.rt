@@ -1,0 +1,15 @@
+//! The classes of equal key of a list, kept while the list changes: what a unique list and a grouping have in common. It
+//! follows a delta of its list and says which keys that touched, and where their classes stand.
+#![tactic(none)]
+
+mod classes;
+mod firsts;
+mod meeting;
+mod old_value;
+mod slots;
+mod touched;
+
+pub use classes::{Classes, ClassesUndo, Followed};
+pub use gl_value::Memory;
+pub use old_value::old_value;
+pub use spec_classes::{First, NewClass, OldClass, Slot};
