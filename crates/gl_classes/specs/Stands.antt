@@ -1,6 +1,6 @@
 -- What the classes of a list stand for, and what their undos give back.
 use Rattle.std.specs.Prelude.{◌≡◌, ⊤, Bool, not, List, map}
-use Rattle.gl_arranged.specs.Tree.{Tree}
+use Rattle.spec_sorting.specs.Tree.{Tree}
 use Rattle.gl_barcode.specs.Bars.{stretch_count}
 use Rattle.gl_kernel.specs.Edits.{played, CanPlay}
 use Rattle.gl_kernel.specs.Results.{LeadsBack}

@@ -16,8 +16,8 @@ ghost use Rattle.gl_classes.specs.Stands.{StandsFor, contents, before, CanRetrea
 
 use crate::firsts::{edits, firsts_of};
 use crate::meeting::meet;
-use crate::slots::slots;
-use crate::touched::{Touched, touched};
+use crate::slots::told_slots;
+use crate::touched::{Touched, find_touched};
 use gl_arranged::{Arrangement, ArrangementUndo, Moves, Ranked, Step};
 use gl_barcode::Barcode;
 use gl_delta::Delta;
@@ -164,7 +164,7 @@ impl Classes {
             → old_len d.now.pieces < 2 ^ digits
             → steps.new ≤ steps.old + fresh_len d.now.pieces * digits }
     {
-        let olds = touched(self.alloc, &self.firsts, gone)?;
+        let olds = find_touched(self.alloc, &self.firsts, gone)?;
         let log = edits(self.alloc, steps_of(undo))?;
         let back = apply(self.alloc, &mut self.firsts, log)?;
         match self.slots(input, d, olds, came, steps) {
@@ -196,7 +196,7 @@ impl Classes {
             → old_len d.now.pieces < 2 ^ digits
             → steps.new ≤ steps.old + fresh_len d.now.pieces * digits }
     {
-        let mut news = touched(self.alloc, &self.firsts, came)?;
+        let mut news = find_touched(self.alloc, &self.firsts, came)?;
         meet(
             self.list.order(),
             input,
@@ -205,7 +205,7 @@ impl Classes {
             news.as_mut_slice(),
             steps,
         );
-        slots(
+        told_slots(
             self.alloc,
             self,
             input,

@@ -5,11 +5,11 @@
 mod classes;
 mod firsts;
 mod meeting;
-mod old_value;
 mod slots;
 mod touched;
+mod values;
 
 pub use classes::{Classes, ClassesUndo, Followed};
 pub use gl_value::Memory;
-pub use old_value::old_value;
+pub use values::old_value;
 pub use spec_classes::{First, NewClass, OldClass, Slot};

@@ -7,12 +7,12 @@ ghost use Rattle.gl_arranged.specs.Sorting.{order_cmp};
 ghost use Rattle.gl_classes.specs.OldValues.{IsOldValue};
 ghost use Rattle.gl_classes.specs.Finding.{AreOlds, AreNews, IsMet, met_olds, met_news};
 
-use crate::old_value::old_value;
+use crate::values::old_value;
 use crate::touched::Touched;
 use gl_delta::Delta;
 use gl_kernel::element;
 use gl_lang::Order;
-use gl_value::{Shelf, Steps};
+use gl_value::{Compare, Shelf, Steps};
 use std::cmp::Ordering;
 use std::sync::ledger::Ledger;
 

@@ -175,7 +175,7 @@ fn next_slot<S: Shelf>(
 }
 
 /// The touched keys, in key order. It takes memory for them.
-pub(crate) fn slots<S: Shelf>(
+pub(crate) fn told_slots<S: Shelf>(
     alloc: Global,
     classes: &Classes,
     input: &S,

@@ -78,7 +78,7 @@ fn next_touched(firsts: &Barcode, ranked: &[Ranked], at: usize) -> (Touched, usi
 }
 
 /// The classes that these elements are in, in key order.
-pub(crate) fn touched(
+pub(crate) fn find_touched(
     alloc: Global,
     firsts: &Barcode,
     ranked: &[Ranked],
