@@ -1,6 +1,6 @@
 //! The classes of equal key of a list, kept while the list changes: what a unique list and a grouping have in common. It
 //! follows a delta of its list and says which keys that touched, and where their classes stand.
-#![tactic(none)]
+#![tactic(auto)]
 
 mod classes;
 mod firsts;

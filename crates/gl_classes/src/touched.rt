@@ -22,11 +22,11 @@ pub(crate) struct Touched {
 }
 
 // The first sorted place from `start` on and before `end` that isn't one of the changed elements, which go on at `at`.
-fn plain_from(ranked: &[Ranked], at: usize, start: usize, end: usize) -> Option<usize>
-    requires { at ≤ length ranked.now }
-    ensures { IsRun ranked.now at start end result }
+fn plain_from(ranked: &[Ranked], from: usize, start: usize, end: usize) -> Option<usize>
+    requires { from ≤ length ranked.now }
+    ensures { IsRun ranked.now from start end result }
 {
-    let mut at = at;
+    let mut at = from;
     let mut place = start;
     'run: while place < end {
         if at >= ranked.len() || ranked[at].place != place {

@@ -5,3 +5,4 @@ pub mod Keys
 pub mod Slots
 pub mod Unique
 pub mod Kept
+pub mod Grouping

@@ -42,6 +42,49 @@ old_counted key (c ∷ cs) es = by (list_any (key c) es) refl (old_counted key c
     by true any later = rw any (met_count (key c) c (meetings_by key cs) (length cs) later es any)
     by false none later = rw none (ap suc (later es))
 
+-- the old classes of meetings, and the new ones
+abbrev pub old_ones : List Meeting → List Class
+old_ones [] = []
+old_ones (goes c ∷ ms) = c ∷ old_ones ms
+old_ones (comes e ∷ ms) = old_ones ms
+old_ones (meets c e ∷ ms) = c ∷ old_ones ms
+
+abbrev pub new_ones : List Meeting → List Class
+new_ones [] = []
+new_ones (goes c ∷ ms) = new_ones ms
+new_ones (comes e ∷ ms) = e ∷ new_ones ms
+new_ones (meets c e ∷ ms) = e ∷ new_ones ms
+
+only_new : (es : List Class) → (old_ones (map comes es) ≡ []) × (new_ones (map comes es) ≡ es)
+only_new [] = (refl, refl)
+only_new (e ∷ es) = ((only_new es).0, ap (λ us. e ∷ us) (only_new es).1)
+
+met_ones : (test : Class → Bool) (c : Class) (cs : List Class) (on : List Class → List Meeting) → ((es : List Class) → (old_ones (on es) ≡ cs) × (new_ones (on es) ≡ es))
+    → (es : List Class) → list_any test es ≡ true → (old_ones (meet test c on es) ≡ c ∷ cs) × (new_ones (meet test c on es) ≡ es)
+met_ones test c cs on h [] any = absurd cc
+met_ones test c cs on h (e ∷ es) any = by (test e) refl (met_ones test c cs on h es)
+  where
+    by : (t : Bool) → test e ≡ t → (list_any test es ≡ true → (old_ones (meet test c on es) ≡ c ∷ cs) × (new_ones (meet test c on es) ≡ es))
+        → (old_ones (meet test c on (e ∷ es)) ≡ c ∷ cs) × (new_ones (meet test c on (e ∷ es)) ≡ e ∷ es)
+    by true is later = rw is (ap (λ us. c ∷ us) (h es).0, ap (λ us. e ∷ us) (h es).1)
+    by false is later = let more = later (sym (ap (λ u. u || list_any test es) is) ∙ any) in rw is (more.0, ap (λ us. e ∷ us) more.1)
+
+both_ones : (key : Class → Class → Bool) (cs es : List Class) → (old_ones (meetings_by key cs es) ≡ cs) × (new_ones (meetings_by key cs es) ≡ es)
+both_ones key [] es = only_new es
+both_ones key (c ∷ cs) es = by (list_any (key c) es) refl (both_ones key cs)
+  where
+    by : (t : Bool) → list_any (key c) es ≡ t → ((us : List Class) → (old_ones (meetings_by key cs us) ≡ cs) × (new_ones (meetings_by key cs us) ≡ us))
+        → (old_ones (meetings_by key (c ∷ cs) es) ≡ c ∷ cs) × (new_ones (meetings_by key (c ∷ cs) es) ≡ es)
+    by true any later = rw any (met_ones (key c) c cs (meetings_by key cs) later es any)
+    by false none later = rw none (ap (λ us. c ∷ us) (later es).0, (later es).1)
+
+-- they are all classes of both lists
+pub all_old : (key : Class → Class → Bool) (cs es : List Class) → old_ones (meetings_by key cs es) ≡ cs
+all_old key cs es = (both_ones key cs es).0
+
+pub all_new : (key : Class → Class → Bool) (cs es : List Class) → new_ones (meetings_by key cs es) ≡ es
+all_new key cs es = (both_ones key cs es).1
+
 -- something holds of each two classes that meet
 abbrev pub AllMeet : (Class → Class → Type 0) → List Meeting → Type 0
 AllMeet P [] = Unit {0}
