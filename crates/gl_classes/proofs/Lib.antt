@@ -1,3 +1,9 @@
 pub mod Positions
 pub mod OldValues
 pub mod FirstMarks
+pub mod ChangedPlaces
+pub mod Searches
+pub mod TouchedClasses
+pub mod KeptMembers
+pub mod Standing
+pub mod Runs

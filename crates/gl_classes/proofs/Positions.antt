@@ -48,7 +48,7 @@ module _ (compare : Comparison) (xs : List Tree) where
         | inr more ↦ inr (more.0, more.1, more.2, more.3, count_false (take (suc q) (map (λ j. false) gs ++ firsts cs)) ∙ more.4, more.5)
       ]
 
-  placed : (cs : List Class) → Each (IsClass compare xs) cs → (place i : ℕ) → slice_get (joined cs) place ≡ Some i → IsPlaced cs place i
+  pub placed : (cs : List Class) → Each (IsClass compare xs) cs → (place i : ℕ) → slice_get (joined cs) place ≡ Some i → IsPlaced cs place i
   placed [] each place i at = absurd cc
   placed ([] ∷ cs) each place i at = absurd (let e = each.0.are in cc)
   placed ((f ∷ fs) ∷ cs) each zero i at =

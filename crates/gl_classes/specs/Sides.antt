@@ -58,22 +58,22 @@ pub record AreSides (compare : Comparison) (xs ys : List Tree) (d : Delta)
 -- what is left of the touched keys
 abbrev pub slots_left : Comparison → List Tree → List Tree → Delta → Cursor → List Slot
 slots_left compare xs ys d at =
-    slots_from d at.old at.new
-    (meetings_by (of_key compare xs ys) (drop at.old (classes compare xs))
-    (drop at.new (classes compare ys)))
+    slots_from d at.olds at.news
+    (meetings_by (of_key compare xs ys) (drop at.olds (classes compare xs))
+    (drop at.news (classes compare ys)))
 
 -- classes of one key were told together
 pub record IsAt (compare : Comparison) (xs ys : List Tree) (olds news : List Touched)
     (at : Cursor) : Type 0 where
   pub together : (p q : ℕ) (c e : Class) → slice_get (classes compare xs) p ≡ Some c
       → slice_get (classes compare ys) q ≡ Some e → of_key compare xs ys c e ≡ true
-      → (p < at.old) ↔ (q < at.new)
+      → (p < at.olds) ↔ (q < at.news)
   pub gone_in : at.gone ≤ length olds
   pub came_in : at.came ≤ length news
-  pub old_in : at.old ≤ length (classes compare xs)
-  pub new_in : at.new ≤ length (classes compare ys)
-  pub olds_told : (t : Touched) (k : ℕ) → slice_get olds k ≡ Some t → (k < at.gone) ↔ (t.class < at.old)
-  pub news_told : (u : Touched) (k : ℕ) → slice_get news k ≡ Some u → (k < at.came) ↔ (u.class < at.new)
+  pub old_in : at.olds ≤ length (classes compare xs)
+  pub new_in : at.news ≤ length (classes compare ys)
+  pub olds_told : (t : Touched) (k : ℕ) → slice_get olds k ≡ Some t → (k < at.gone) ↔ (t.class < at.olds)
+  pub news_told : (u : Touched) (k : ℕ) → slice_get news k ≡ Some u → (k < at.came) ↔ (u.class < at.news)
 
 -- the next touched class, if no other one stands before it
 abbrev pub if_at : ℕ → Option Touched → Option Touched
@@ -86,5 +86,5 @@ next_at ts index class = if_at class (slice_get ts index)
 -- a touched class of the one list or of the other is next
 abbrev pub AtTouched : List Touched → List Touched → Cursor → Type 0
 AtTouched olds news at =
-    ((t : Touched) × (slice_get olds at.gone ≡ Some t) × (t.class ≡ at.old))
-    ⊎ ((u : Touched) × (slice_get news at.came ≡ Some u) × (u.class ≡ at.new))
+    ((t : Touched) × (slice_get olds at.gone ≡ Some t) × (t.class ≡ at.olds))
+    ⊎ ((u : Touched) × (slice_get news at.came ≡ Some u) × (u.class ≡ at.news))

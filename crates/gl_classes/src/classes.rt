@@ -247,7 +247,7 @@ impl Classes {
         self.firsts.shown_len()
     }
 
-    /// The sorted place of the first member of a class; for the number of classes, the end.
+    /// The sorted place of the first member of a class.
     pub fn start_of(&self, class: usize) -> usize
         requires { class < count_shown self.now.firsts.shown }
         ensures { IsKthShown class self.now.firsts.shown result }
@@ -258,14 +258,22 @@ impl Classes {
         }
     }
 
-    /// The place in the list of the first member of a class.
-    pub fn first_of(&self, class: usize) -> usize
-        requires { class < count_shown self.now.firsts.shown }
+    /// The place in the list of the first member of a class, or `None` where there are no more classes.
+    pub fn find_first(&self, class: usize) -> Option<usize>
         ensures { (xs : List Tree) → StandsFor self.now xs
-            → option_map first_of (slice_get (classes (order_cmp self.now.list.order) xs) class)
-            ≡ Some result }
+            → result
+            ≡ option_map first_of (slice_get (classes (order_cmp self.now.list.order) xs) class) }
     {
-        self.list.source_of(self.start_of(class))
+        match self.firsts.select(class) {
+            Some(place) => {
+                if place < self.list.len() {
+                    Some(self.list.source_of(place))
+                } else {
+                    None
+                }
+            }
+            None => None,
+        }
     }
 
     /// The place in the list of the element at a sorted place.

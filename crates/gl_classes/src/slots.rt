@@ -4,7 +4,7 @@ ghost use Rattle.std.specs.Prelude.{◌≡◌, ◌+◌, ◌<◌, ◌≤◌, ◌�
 ghost use Rattle.spec_sorting.specs.Leads.{LeadsTo, undone};
 ghost use Rattle.gl_arranged.specs.Sorting.{order_cmp};
 ghost use Rattle.spec_classes.specs.Slots.{slots};
-ghost use Rattle.gl_classes.specs.Sides.{AreSides, IsAt, AtTouched, slots_left};
+ghost use Rattle.gl_classes.specs.Sides.{AreSides, IsAt, AtTouched, next_at, slots_left};
 ghost use Rattle.gl_classes.specs.Stands.{StandsFor};
 
 use crate::classes::Classes;
@@ -17,8 +17,8 @@ use std::alloc::{AllocError, Global};
 /// How far both lists were told: of how many classes of either, and of how many of the touched ones.
 #[derive(Clone, Copy)]
 pub(crate) struct Cursor {
-    pub(crate) old: usize,
-    pub(crate) new: usize,
+    pub(crate) olds: usize,
+    pub(crate) news: usize,
     pub(crate) gone: usize,
     pub(crate) came: usize,
 }
@@ -50,13 +50,13 @@ fn pass<S: Shelf>(
 {
     let _ = (classes, input, d);
     let kept = match (olds.get(at.gone), news.get(at.came)) {
-        (Some(gone), Some(came)) => (gone.class - at.old).min(came.class - at.new),
-        (Some(gone), None) => gone.class - at.old,
-        (None, Some(came)) => came.class - at.new,
+        (Some(gone), Some(came)) => (gone.class - at.olds).min(came.class - at.news),
+        (Some(gone), None) => gone.class - at.olds,
+        (None, Some(came)) => came.class - at.news,
         (None, None) => 0,
     };
-    at.old += kept;
-    at.new += kept;
+    at.olds += kept;
+    at.news += kept;
 }
 
 // The next touched class, if no other one stands before it.
@@ -121,15 +121,15 @@ fn next_slot<S: Shelf>(
     ensures further { at.old.gone + at.old.came < at.new.gone + at.new.came }
 {
     let _ = (input, d);
-    let gone = next_at(olds, at.gone, at.old);
-    let came = next_at(news, at.came, at.new);
+    let gone = next_at(olds, at.gone, at.olds);
+    let came = next_at(news, at.came, at.news);
     if let Some(touched) = gone {
         if !touched.stays {
             let old = OldClass {
-                index: at.old,
+                index: at.olds,
                 first: First::Gone(touched.source),
             };
-            at.old += 1;
+            at.olds += 1;
             at.gone += 1;
             return Slot {
                 old: Some(old),
@@ -140,10 +140,10 @@ fn next_slot<S: Shelf>(
     if let Some(touched) = came {
         if !touched.stays {
             let new = NewClass {
-                index: at.new,
+                index: at.news,
                 first: touched.source,
             };
-            at.new += 1;
+            at.news += 1;
             at.came += 1;
             return Slot {
                 old: None,
@@ -151,17 +151,20 @@ fn next_slot<S: Shelf>(
             };
         }
     }
-    let new_first = classes.first_of(at.new);
+    let new_first = match classes.find_first(at.news) {
+        Some(first) => first,
+        None => unreachable!(),
+    };
     let old = OldClass {
-        index: at.old,
+        index: at.olds,
         first: old_first(classes, gone, came, new_first),
     };
     let new = NewClass {
-        index: at.new,
+        index: at.news,
         first: new_first,
     };
-    at.old += 1;
-    at.new += 1;
+    at.olds += 1;
+    at.news += 1;
     if gone.is_some() {
         at.gone += 1;
     }
@@ -193,8 +196,8 @@ pub(crate) fn told_slots<S: Shelf>(
 {
     let mut out = Vec::new(alloc);
     let mut at = Cursor {
-        old: 0,
-        new: 0,
+        olds: 0,
+        news: 0,
         gone: 0,
         came: 0,
     };
