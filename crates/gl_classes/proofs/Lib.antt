@@ -7,3 +7,6 @@ pub mod TouchedClasses
 pub mod KeptMembers
 pub mod Standing
 pub mod Runs
+pub mod Spans
+pub mod FoundClasses
+pub mod Meetings

@@ -46,6 +46,14 @@ abbrev pub met_olds : Comparison → List Tree → List Tree → List Touched �
 met_olds compare xs ys olds news =
     map (λ t. stays_if t (list_any (λ u. not u.stays && meets compare xs ys t u) news)) olds
 
+-- one of these met them
+abbrev pub met_one : Comparison → List Tree → List Tree → List Touched → Touched → List Touched
+met_one compare xs ys olds u =
+    map (λ t. stays_if t (not u.stays && meets compare xs ys t u)) olds
+
+abbrev pub met_new : Comparison → List Tree → List Tree → List Touched → Touched → Touched
+met_new compare xs ys olds u = stays_if u (list_any (λ t. meets compare xs ys t u) olds)
+
 abbrev pub met_news : Comparison → List Tree → List Tree → List Touched → List Touched → List Touched
 met_news compare xs ys olds news =
     map (λ u. stays_if u (list_any (λ t. meets compare xs ys t u) olds)) news

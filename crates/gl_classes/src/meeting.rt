@@ -5,7 +5,7 @@ ghost use Rattle.spec_sorting.specs.Leads.{LeadsTo, undone};
 ghost use Rattle.spec_sorting.specs.Source.{element_at};
 ghost use Rattle.gl_arranged.specs.Sorting.{order_cmp};
 ghost use Rattle.gl_classes.specs.OldValues.{IsOldValue};
-ghost use Rattle.gl_classes.specs.Finding.{AreOlds, AreNews, IsMet, met_olds, met_news};
+ghost use Rattle.gl_classes.specs.Finding.{AreOlds, AreNews, IsMet, met_one, met_new, met_olds, met_news};
 
 use crate::values::old_value;
 use crate::touched::Touched;
@@ -68,6 +68,47 @@ fn search<S: Shelf, L: Ledger>(
     }
 }
 
+// A touched class of the new list: where all its members are changed it looks for the one of its key in the old list.
+fn meet_one<S: Shelf, L: Ledger>(
+    order: &Order,
+    input: &S,
+    d: &Delta,
+    olds: &mut [Touched],
+    one: Touched,
+    steps: &mut Steps<L>,
+) -> Touched
+    requires leads { LeadsTo d.now.pieces (S.items input.now) }
+    requires olds { AreOlds (order_cmp order.now) (undone d.now.pieces (S.items input.now))
+        d.now.pieces olds.old }
+    requires new { one.source < length (S.items input.now) }
+    ensures olds { olds.new
+        ≡ met_one (order_cmp order.now) (undone d.now.pieces (S.items input.now))
+        (S.items input.now) olds.old one }
+    ensures new { result
+        ≡ met_new (order_cmp order.now) (undone d.now.pieces (S.items input.now))
+        (S.items input.now) olds.old one }
+    ensures counted { (digits : ℕ)
+        → length olds.old < 2 ^ digits
+        → steps.new ≤ steps.old + digits }
+{
+    if one.stays {
+        return one;
+    }
+    match search(order, input, d, olds, 0, olds.len(), one.source, steps) {
+        Some(old) => {
+            olds[old].stays = true;
+            Touched {
+                class: one.class,
+                source: one.source,
+                first: one.first,
+                plain: one.plain,
+                stays: true,
+            }
+        }
+        None => one,
+    }
+}
+
 /// Lets the classes of the new list whose members are all changed meet those of the old list. It compares for each of them
 /// once a binary digit of the number of these, and takes no memory.
 pub(crate) fn meet<S: Shelf, L: Ledger>(
@@ -93,13 +134,6 @@ pub(crate) fn meet<S: Shelf, L: Ledger>(
         → steps.new ≤ steps.old + length news.old * digits }
 {
     for index in 0..news.len() {
-        if news[index].stays {
-            continue;
-        }
-        let found = search(order, input, d, olds, 0, olds.len(), news[index].source, steps);
-        if let Some(old) = found {
-            news[index].stays = true;
-            olds[old].stays = true;
-        }
+        news[index] = meet_one(order, input, d, olds, news[index], steps);
     }
 }

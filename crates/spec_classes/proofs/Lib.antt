@@ -6,3 +6,4 @@ pub mod Slots
 pub mod Unique
 pub mod Kept
 pub mod Grouping
+pub mod Steps

@@ -1,10 +1,5 @@
 use Rattle.gl_classes.proofs.OldValues.{old_told}
-use Rattle.gl_classes.proofs.Positions.{count_here}
-use Rattle.gl_classes.proofs.FirstMarks.{edits_make}
-use Rattle.gl_classes.proofs.ChangedPlaces.{changed_there}
-use Rattle.gl_classes.proofs.Searches.{halved}
-use Rattle.gl_classes.proofs.TouchedClasses.{touched_class}
-use Rattle.gl_classes.proofs.KeptMembers.{keeps_new}
+use Rattle.gl_classes.proofs.Meetings.{one_met}
 use Rattle.gl_classes.proofs.values.old_value.Goals as goal
 
 pub returns : goal.returns
