@@ -95,14 +95,16 @@ module _ (compare : Comparison) (o : IsTotalOrder compare) (xs : List Tree) (ite
   each_rank [] e = tt
   each_rank (c ∷ cs) e =
       let h = e.0 in
-      let same : c.source ≡ h.index = omega (arith, h.at) in
-      (record {
-        at = index_found c.source (arrangement compare xs) (in_all c.source (omega (arith, h.within, same, long)));
-        changed = record {
-          within = omega (arith, h.within, same);
-          other = λ j f. h.other j (ap (slice_get items) (sym same) ∙ f);
-        };
-      }, each_rank cs e.1)
+      let same : c.source ≡ h.index = omega (arith, h.at) in (
+        record {
+          at = index_found c.source (arrangement compare xs) (in_all c.source (omega (arith, h.within, same, long)));
+          changed = record {
+            within = omega (arith, h.within, same);
+            other = λ j f. h.other j (ap (slice_get items) (sym same) ∙ f);
+          };
+        },
+        each_rank cs e.1,
+      )
 
   pub ranked_there : (ranked : List Ranked) → AreRanked (arrangement compare xs) items ranked → Each (StandsThere compare xs items) ranked
   ranked_there ranked h =

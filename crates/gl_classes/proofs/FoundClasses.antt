@@ -83,11 +83,11 @@ found_more bs ranked at next out ts t changed f n are =
     each_weaker (IsLater bs ranked at) (λ (u : Touched). u.class < t.class) (λ u h. let less = h at n.one (omega arith) n.here in omega (arith, less, is_class)) out f.later in
     let earlier : (k : ℕ) (r : Ranked) → k < at → slice_get ranked k ≡ Some r → class_of bs r.place ≤ t.class =
     λ k r less here.
-        let some = changed.begins r.place (each_low bs ranked changed.low k r here) in
-        let c : ℕ = class_of bs r.place - 1 in
-        let number : class_of bs r.place ≡ suc c = omega (arith, some) in
-        let below : c < t.class = in_each (λ i. i < t.class) out lower c (f.all k c r less here number) in
-        omega (arith, below, number) in
+    let some = changed.begins r.place (each_low bs ranked changed.low k r here) in
+    let c : ℕ = class_of bs r.place - 1 in
+    let number : class_of bs r.place ≡ suc c = omega (arith, some) in
+    let below : c < t.class = in_each (λ i. i < t.class) out lower c (f.all k c r less here number) in
+    omega (arith, below, number) in
     let further : at < next = elim (cases_lt at next) [
       | inl less ↦ less
       | inr more ↦

@@ -19,12 +19,12 @@ pub run_more : (ranked : List Ranked) (from start at place : ℕ) → start ≤ 
     → (r : Ranked) → slice_get ranked at ≡ Some r → r.place ≡ place → RunsOn ranked from start (place + 1 - start)
 run_more ranked from start at place low at_is runs r here is =
     λ k less.
-        elim (cases_lt k (place - start)) [
-          | inl before ↦ runs k before
-          | inr level ↦
-              let k_is : from + k ≡ at = omega (arith, level, less, low, at_is) in
-              (r, ap (slice_get ranked) k_is ∙ here, omega (arith, is, level, less, low))
-        ]
+    elim (cases_lt k (place - start)) [
+      | inl before ↦ runs k before
+      | inr level ↦
+          let k_is : from + k ≡ at = omega (arith, level, less, low, at_is) in
+          (r, ap (slice_get ranked) k_is ∙ here, omega (arith, is, level, less, low))
+    ]
 
 -- the run ends where another element is next
 pub stops_at : (ranked : List Ranked) (from start end at place : ℕ) → start ≤ place → at + start ≡ from + place → RunsOn ranked from start (place - start)

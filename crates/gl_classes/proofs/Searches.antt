@@ -38,11 +38,11 @@ module _ (compare : Comparison) (o : IsTotalOrder compare) (xs ys : List Tree) (
       → IsMet compare xs ys olds (middle + 1) high new result → IsMet compare xs ys olds low high new result
   met_after low middle high t None from at less met =
       λ k u k_from k_to k_at.
-          elim (cases_order k middle) [
-            | inl same ↦ not_equal (With u) Less (ap With (some_same u t (sym k_at ∙ (ap (slice_get olds) same ∙ at))) ∙ less) less_other
-            | inr (inl lower) ↦ not_equal (With u) Less (o.trans _ _ _ (are.rise k middle u t lower k_at at) less) less_other
-            | inr (inr more) ↦ met k u (omega (arith, more)) k_to k_at
-          ]
+      elim (cases_order k middle) [
+        | inl same ↦ not_equal (With u) Less (ap With (some_same u t (sym k_at ∙ (ap (slice_get olds) same ∙ at))) ∙ less) less_other
+        | inr (inl lower) ↦ not_equal (With u) Less (o.trans _ _ _ (are.rise k middle u t lower k_at at) less) less_other
+        | inr (inr more) ↦ met k u (omega (arith, more)) k_to k_at
+      ]
   met_after low middle high t (Some k) from at less met = (omega (arith, met.0, from), met.1, met.2, met.3, met.4)
 
   -- it is greater: so are all after it
@@ -50,14 +50,14 @@ module _ (compare : Comparison) (o : IsTotalOrder compare) (xs ys : List Tree) (
       → IsMet compare xs ys olds low middle new result → IsMet compare xs ys olds low high new result
   met_before low middle high t None to at greater met =
       λ k u k_from k_to k_at.
-          elim (cases_order k middle) [
-            | inl same ↦ not_equal (With u) Greater (ap With (some_same u t (sym k_at ∙ (ap (slice_get olds) same ∙ at))) ∙ greater) greater_other
-            | inr (inl lower) ↦ met k u k_from lower k_at
-            | inr (inr more) ↦
-                let back : compare (element_at ys new) (element_at xs t.source) ≡ Less = o.antisymm _ _ ∙ ap ordering_reverse greater in
-                let through = o.trans _ _ _ back (are.rise middle k t u more at k_at) in
-                not_equal (With u) Greater (o.antisymm _ _ ∙ ap ordering_reverse through) greater_other
-          ]
+      elim (cases_order k middle) [
+        | inl same ↦ not_equal (With u) Greater (ap With (some_same u t (sym k_at ∙ (ap (slice_get olds) same ∙ at))) ∙ greater) greater_other
+        | inr (inl lower) ↦ met k u k_from lower k_at
+        | inr (inr more) ↦
+            let back : compare (element_at ys new) (element_at xs t.source) ≡ Less = o.antisymm _ _ ∙ ap ordering_reverse greater in
+            let through = o.trans _ _ _ back (are.rise middle k t u more at k_at) in
+            not_equal (With u) Greater (o.antisymm _ _ ∙ ap ordering_reverse through) greater_other
+      ]
   met_before low middle high t (Some k) to at greater met = (met.0, let less = met.1 in omega (arith, less, to), met.2, met.3, met.4)
 
   pub met_here : (low middle high : ℕ) (t : Touched) → low ≤ middle → middle < high → slice_get olds middle ≡ Some t → With t ≡ Equal

@@ -56,15 +56,16 @@ span_to_end bs class start end one is none = record {
 
 -- a place is in the span of its class
 pub in_span : (bs : List Bool) (class start end place : ℕ) → IsSpan bs class start end → place < length bs → class_of bs place ≡ suc class → (start ≤ place) × (place < end)
-in_span bs class start end place s within is =
-    (elim (cases_lt place start) [
-      | inl less ↦ absurd (let low = s.before place less in omega (arith, low, is))
-      | inr more ↦ more
-    ],
-    elim (cases_lt place end) [
-      | inl less ↦ less
-      | inr more ↦ absurd (let high = s.after place more within in omega (arith, high, is))
-    ])
+in_span bs class start end place s within is = (
+  elim (cases_lt place start) [
+    | inl less ↦ absurd (let low = s.before place less in omega (arith, low, is))
+    | inr more ↦ more
+  ],
+  elim (cases_lt place end) [
+    | inl less ↦ less
+    | inr more ↦ absurd (let high = s.after place more within in omega (arith, high, is))
+  ],
+)
 
 get_at : (rs : List Ranked) (k : ℕ) (r : Ranked) → slice_get rs k ≡ Some r → slice_get (places rs) k ≡ Some r.place
 get_at [] k r at = absurd cc
@@ -137,34 +138,34 @@ next_is_touched bs ranked at next t changed n earlier = record {
     plain_found : (q : Option ℕ) → IsRun ranked at n.start n.end q → IsPlain bs (places ranked) t.class q
     plain_found None runs =
         λ p within is.
-            let s = in_span bs t.class n.start n.end p n.span within is in
-            let r = runs (p - n.start) (omega (arith, s.0, s.1)) in
-            let p_is : r.0.place ≡ p = r.2 ∙ omega (arith, s.0) in
-            subst (λ k. In k (places ranked)) p_is (index_in ranked (at + (p - n.start)) r.0 r.1)
+        let s = in_span bs t.class n.start n.end p n.span within is in
+        let r = runs (p - n.start) (omega (arith, s.0, s.1)) in
+        let p_is : r.0.place ≡ p = r.2 ∙ omega (arith, s.0) in
+        subst (λ k. In k (places ranked)) p_is (index_in ranked (at + (p - n.start)) r.0 r.1)
     plain_found (Some q) s =
         let within = s.within in
         let low : n.start ≤ q = omega (arith, s.place_is) in (
           omega (arith, within, n.span.ends),
           n.span.inside q low s.within,
           (λ found.
-            let f = in_index q ranked found in
-            elim (cases_lt f.0 (at + s.run)) [
-              | inl less ↦
-                  elim (cases_lt f.0 at) [
-                    | inl before ↦ absurd (let lower = earlier f.0 f.1 before f.2 in omega (arith, lower, ap (class_of bs) (sym f.3), n.span.inside q low s.within))
-                    | inr from ↦
-                        let r = s.runs (f.0 - at) (omega (arith, less, from)) in
-                        let k_is : at + (f.0 - at) ≡ f.0 = omega (arith, from) in
-                        let r_is : r.0 ≡ f.1 = some_same r.0 f.1 (sym r.1 ∙ (ap (slice_get ranked) k_is ∙ f.2)) in
-                        absurd (omega (arith, r.2, ap (λ (x : Ranked). x.place) r_is, f.3, s.place_is, less, from))
-                  ]
-              | inr more ↦ past f.0 f.1 more f.2 f.3
-            ]),
+              let f = in_index q ranked found in
+              elim (cases_lt f.0 (at + s.run)) [
+                | inl less ↦
+                    elim (cases_lt f.0 at) [
+                      | inl before ↦ absurd (let lower = earlier f.0 f.1 before f.2 in omega (arith, lower, ap (class_of bs) (sym f.3), n.span.inside q low s.within))
+                      | inr from ↦
+                          let r = s.runs (f.0 - at) (omega (arith, less, from)) in
+                          let k_is : at + (f.0 - at) ≡ f.0 = omega (arith, from) in
+                          let r_is : r.0 ≡ f.1 = some_same r.0 f.1 (sym r.1 ∙ (ap (slice_get ranked) k_is ∙ f.2)) in
+                          absurd (omega (arith, r.2, ap (λ (x : Ranked). x.place) r_is, f.3, s.place_is, less, from))
+                    ]
+                | inr more ↦ past f.0 f.1 more f.2 f.3
+              ]),
           (λ p is lower.
-            let from = in_span bs t.class n.start n.end p n.span (omega (arith, lower, within, n.span.ends)) is in
-            let r = s.runs (p - n.start) (omega (arith, from.0, lower, s.place_is)) in
-            let p_is : r.0.place ≡ p = r.2 ∙ omega (arith, from.0) in
-            subst (λ k. In k (places ranked)) p_is (index_in ranked (at + (p - n.start)) r.0 r.1)),
+              let from = in_span bs t.class n.start n.end p n.span (omega (arith, lower, within, n.span.ends)) is in
+              let r = s.runs (p - n.start) (omega (arith, from.0, lower, s.place_is)) in
+              let p_is : r.0.place ≡ p = r.2 ∙ omega (arith, from.0) in
+              subst (λ k. In k (places ranked)) p_is (index_in ranked (at + (p - n.start)) r.0 r.1)),
         )
       where
         past : (k : ℕ) (r : Ranked) → at + s.run ≤ k → slice_get ranked k ≡ Some r → q ≡ r.place → ⊥

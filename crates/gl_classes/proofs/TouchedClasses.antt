@@ -187,14 +187,19 @@ module _ (compare : Comparison) (o : IsTotalOrder compare) (zs : List Tree) (ite
             changed_at p.0 i p.1 (none_plain t.plain e h.plain_is p.0 (count_within p.0 i p.1) p.2);
         some_kept = λ q e.
             let plain_is = some_plain t.plain q e h.plain_is in
-            let j = at_within is q (marks_within q plain_is.0) in
-            (j.0, j.1, member_at q j.0 t.class a.class j.1 plain_is.1 here, kept_at q j.0 j.1 plain_is.2, λ i found holds.
-              let p = place_in t.class i a.class here found in
-              elim (cases_order q p.0) [
-                | inl same ↦ let e_is : j.0 ≡ i = some_same j.0 i (sym j.1 ∙ (ap (slice_get is) same ∙ p.1)) in omega (arith, e_is)
-                | inr (inl less) ↦ let lower = in_order q p.0 j.0 i j.1 p.1 (plain_is.1 ∙ sym p.2) less in omega (arith, lower)
-                | inr (inr more) ↦ absurd (true_false (sym holds ∙ changed_at p.0 i p.1 (plain_is.3 p.0 p.2 more)))
-              ]);
+            let j = at_within is q (marks_within q plain_is.0) in (
+              j.0,
+              j.1,
+              member_at q j.0 t.class a.class j.1 plain_is.1 here,
+              kept_at q j.0 j.1 plain_is.2,
+              λ i found holds.
+                  let p = place_in t.class i a.class here found in
+                  elim (cases_order q p.0) [
+                    | inl same ↦ let e_is : j.0 ≡ i = some_same j.0 i (sym j.1 ∙ (ap (slice_get is) same ∙ p.1)) in omega (arith, e_is)
+                    | inr (inl less) ↦ let lower = in_order q p.0 j.0 i j.1 p.1 (plain_is.1 ∙ sym p.2) less in omega (arith, lower)
+                    | inr (inr more) ↦ absurd (true_false (sym holds ∙ changed_at p.0 i p.1 (plain_is.3 p.0 p.2 more)))
+                  ],
+            );
       }
     where
       true_false : true ≡ false → ⊥

@@ -205,14 +205,7 @@ impl Classes {
             news.as_mut_slice(),
             steps,
         );
-        told_slots(
-            self.alloc,
-            self,
-            input,
-            d,
-            olds.as_slice(),
-            news.as_slice(),
-        )
+        told_slots(self.alloc, self, input, d, olds.as_slice(), news.as_slice())
     }
 
     /// Becomes other classes, and keeps what they were in the undo.

@@ -11,5 +11,5 @@ mod values;
 
 pub use classes::{Classes, ClassesUndo, Followed};
 pub use gl_value::Memory;
-pub use values::old_value;
 pub use spec_classes::{First, NewClass, OldClass, Slot};
+pub use values::old_value;

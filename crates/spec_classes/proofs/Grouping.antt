@@ -1,13 +1,13 @@
 -- A grouping tells of a change what the touched keys say.
-use Rattle.std.proofs.Common.{◌≡◌, ◌∙◌, ◌⊎◌, ℕ, zero, suc, ◌+◌, ◌-◌, ◌<◌, ◌≤◌, ◌&&◌, Bool, true, false, List, [], ◌∷◌, length, map, refl, ap, sym, subst, arith, inl, inr}
-use Rattle.std.specs.Prelude.{pos, unwrap_or, Some, slice_get, nat_lt, if◌then◌else◌}
+use Rattle.std.proofs.Common.{◌≡◌, ◌∙◌, ℕ, zero, suc, ◌+◌, ◌<◌, ◌≤◌, ◌&&◌, Bool, true, false, List, [], ◌∷◌, length, map, refl, ap, sym, subst, arith, inl, inr}
+use Rattle.std.specs.Prelude.{pos, unwrap_or, Some, slice_get, if◌then◌else◌}
 use Rattle.std.specs.List.{list_all, AllByRecursion as Each}
 use Rattle.std.specs.Cmp.{IsTotalOrder, tied_back}
 use Rattle.std.specs.declared.cmp.Ordering.TheVariants.{Equal}
 use Rattle.std.proofs.lemmas.Bool.{cases_order, lt-ltb, ltb-true}
 use Rattle.spec_value.specs.Tree.{Tree, num, items_of}
 use Rattle.spec_lists.specs.Piece.{Piece, kept, updated, deleted, inserted}
-use Rattle.spec_lists.specs.Pairs.{Pair, pairs}
+use Rattle.spec_lists.specs.Pairs.{pairs}
 use Rattle.spec_lists.specs.Delta.{Delta}
 use Rattle.spec_lists.specs.Leads.{LeadsFrom, applied}
 use Rattle.spec_lists.proofs.DeltaLeads.{length-applied, length_from}
@@ -17,12 +17,12 @@ use Rattle.spec_views.specs.Classes.{Class, first_of, classes, is_kept_old, is_k
 use Rattle.spec_views.specs.Grouping.{group_of, grouping_view, grouping_follow}
 use Rattle.spec_views.proofs.SortedPositions.{In}
 use Rattle.spec_sorting.specs.Moves.{IsRising}
-use Rattle.spec_sorting.proofs.Partners.{each_weaker, each_both}
+use Rattle.spec_sorting.proofs.Partners.{each_weaker}
 use Rattle.spec_classes.specs.Members.{IsClass}
 use Rattle.spec_classes.specs.Meetings.{Meeting, goes, comes, meets, of_key, meetings}
 use Rattle.spec_classes.specs.Slots.{slots, told_by}
 use Rattle.spec_classes.specs.Told.{group_piece}
-use Rattle.spec_classes.proofs.Keys.{key_tied, IsWhole, classes_whole, IsMember, member_is}
+use Rattle.spec_classes.proofs.Keys.{key_tied, IsWhole, classes_whole, member_is}
 use Rattle.spec_classes.proofs.PlainPairs.{partner_of_old, partner_of_new, plain_one, plain_order}
 use Rattle.spec_classes.proofs.Meets.{ShowsSame, piece_at, told_by_meetings}
 use Rattle.spec_classes.proofs.Slots.{AllMeet, Here, all_meet, Agree, told_slots, old_counted, old_ones, new_ones, all_old, all_new}
@@ -126,14 +126,20 @@ module _ (compare : Comparison) (o : IsTotalOrder compare) (d : Delta) (xs : Lis
       ap items_of (values_same d xs leads c e rise.0 rise_too.0 rise.1 rise_too.1 (record {
         to = λ i found.
             let p = partner_of_old (pairs d) i (all_in (is_kept_old (pairs d)) c both.0 i found) in
-            let one = plain_one d xs leads i p.0 p.1 in
-            (p.0, whole_too.full p.0 (omega (arith, one.new_within, length-applied d xs leads))
-            (ap (compare (element_at ys (first_of e))) (sym one.same) ∙ (o.congr _ _ (element_at xs i) (tied_back o _ _ tied) ∙ (member_is compare o xs c whole.class i found).tied)), p.1);
+            let one = plain_one d xs leads i p.0 p.1 in (
+              p.0,
+              whole_too.full p.0 (omega (arith, one.new_within, length-applied d xs leads))
+                  (ap (compare (element_at ys (first_of e))) (sym one.same) ∙ (o.congr _ _ (element_at xs i) (tied_back o _ _ tied) ∙ (member_is compare o xs c whole.class i found).tied)),
+              p.1,
+            );
         from = λ j found.
             let p = partner_of_new (pairs d) j (all_in (is_kept_new (pairs d)) e both.1 j found) in
-            let one = plain_one d xs leads p.0 j p.1 in
-            (p.0, whole.full p.0 (omega (arith, one.old_within, length_from d xs leads))
-            (ap (compare (element_at xs (first_of c))) one.same ∙ (o.congr _ _ (element_at ys j) tied ∙ (member_is compare o ys e whole_too.class j found).tied)), p.1);
+            let one = plain_one d xs leads p.0 j p.1 in (
+              p.0,
+              whole.full p.0 (omega (arith, one.old_within, length_from d xs leads))
+                  (ap (compare (element_at xs (first_of c))) one.same ∙ (o.congr _ _ (element_at ys j) tied ∙ (member_is compare o ys e whole_too.class j found).tied)),
+              p.1,
+            );
       }))
     where
       parts : (t u : Bool) → (t && u) ≡ true → (t ≡ true) × (u ≡ true)
@@ -169,11 +175,14 @@ module _ (compare : Comparison) (o : IsTotalOrder compare) (d : Delta) (xs : Lis
       (ap deleted (stand_here xs r c (old_ones ms) (classes compare xs) old), agree (suc r) s ms all (stand_next r c (old_ones ms) (classes compare xs) old) new)
   agree r s (comes e ∷ ms) all old new =
       (ap inserted (stand_here ys s e (new_ones ms) (classes compare ys) new), agree r (suc s) ms all old (stand_next s e (new_ones ms) (classes compare ys) new))
-  agree r s (meets c e ∷ ms) all old new = ((
-    (λ kept_all. ap (λ t. if t then kept else updated (group_of xs c) (group_of ys e)) kept_all),
-    (λ touched. both _ _ _ _ (stand_here xs r c (old_ones ms) (classes compare xs) old) (stand_here ys s e (new_ones ms) (classes compare ys) new)
-      ∙ sym (ap (λ t. if t then kept else updated (group_of xs c) (group_of ys e)) touched)),
-  ), agree (suc r) (suc s) ms all.1 (stand_next r c (old_ones ms) (classes compare xs) old) (stand_next s e (new_ones ms) (classes compare ys) new))
+  agree r s (meets c e ∷ ms) all old new = (
+    (
+      (λ kept_all. ap (λ t. if t then kept else updated (group_of xs c) (group_of ys e)) kept_all),
+      (λ touched. both _ _ _ _ (stand_here xs r c (old_ones ms) (classes compare xs) old) (stand_here ys s e (new_ones ms) (classes compare ys) new)
+          ∙ sym (ap (λ t. if t then kept else updated (group_of xs c) (group_of ys e)) touched)),
+    ),
+    agree (suc r) (suc s) ms all.1 (stand_next r c (old_ones ms) (classes compare xs) old) (stand_next s e (new_ones ms) (classes compare ys) new),
+  )
     where
       both : (u v w z : Tree) → u ≡ v → w ≡ z → updated u w ≡ updated v z
       both u v w z e f = cc

@@ -1,7 +1,7 @@
 -- A class with a member that is kept has one of its key in the other list. One without meets only one without.
-use Rattle.std.proofs.Common.{◌≡◌, ◌∙◌, ℕ, zero, suc, ◌<◌, ◌||◌, Bool, true, false, List, [], ◌∷◌, length, refl, ap, sym, subst, arith, inl, inr}
+use Rattle.std.proofs.Common.{◌≡◌, ◌∙◌, ℕ, zero, suc, ◌||◌, Bool, true, false, List, [], ◌∷◌, refl, ap, sym, arith}
 use Rattle.std.specs.Prelude.{Some, slice_get}
-use Rattle.std.specs.List.{list_any, list_all, AllByRecursion as Each}
+use Rattle.std.specs.List.{list_any}
 use Rattle.std.specs.Cmp.{IsTotalOrder, tied_back}
 use Rattle.std.specs.declared.cmp.Ordering.TheVariants.{Equal}
 use Rattle.spec_value.specs.Tree.{Tree}
@@ -15,7 +15,7 @@ use Rattle.spec_views.specs.Classes.{Class, first_of, classes, is_kept_old, is_k
 use Rattle.spec_views.proofs.SortedPositions.{In}
 use Rattle.spec_classes.specs.Meetings.{of_key}
 use Rattle.spec_classes.proofs.Members.{are_classes}
-use Rattle.spec_classes.proofs.Keys.{key_tied, tied_is_key, IsWhole, IsMember, member_is, all_joined, HasMember, find_class}
+use Rattle.spec_classes.proofs.Keys.{key_tied, tied_is_key, IsWhole, member_is, all_joined, find_class}
 use Rattle.spec_classes.proofs.PlainPairs.{partner_of_old, partner_of_new, plain_one, kept_by_old, kept_by_new}
 
 -- a test that holds of an item of a list

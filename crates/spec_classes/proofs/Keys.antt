@@ -1,20 +1,19 @@
 -- A class has all elements of its key; so the classes of plain partners have equal keys.
-use Rattle.std.proofs.Common.{◌≡◌, ◌≢◌, ◌∙◌, ◌⊎◌, ℕ, zero, suc, ◌+◌, ◌<◌, ◌≤◌, ◌||◌, ◌++◌, Bool, true, false, List, [], ◌∷◌, length, refl, ap, sym, subst, arith, inl, inr}
+use Rattle.std.proofs.Common.{◌≡◌, ◌∙◌, ◌⊎◌, ℕ, suc, ◌<◌, ◌≤◌, ◌++◌, true, false, List, [], ◌∷◌, length, refl, sym, subst, arith, inl, inr}
 use Rattle.std.specs.Prelude.{Some, slice_get}
 use Rattle.std.specs.List.{AllByRecursion as Each}
 use Rattle.std.specs.Cmp.{IsTotalOrder, alike_right, tied_back, tied_itself}
-use Rattle.std.specs.Ordering.{is_eq, ordering_reverse}
+use Rattle.std.specs.Ordering.{is_eq}
 use Rattle.std.specs.declared.cmp.Ordering.{Ordering}
 use Rattle.std.specs.declared.cmp.Ordering.TheVariants.{Less, Equal, Greater}
 use Rattle.spec_value.specs.Tree.{Tree}
 use Rattle.spec_views.specs.Source.{element_at}
 use Rattle.spec_views.specs.Arrangement.{Comparison, arrangement}
-use Rattle.spec_views.specs.Classes.{Class, first_of, has_key_of, classes}
+use Rattle.spec_views.specs.Classes.{Class, first_of, classes}
 use Rattle.spec_views.proofs.SortedPositions.{In, all_below}
 use Rattle.spec_views.proofs.Arrangements.{arrangement_is, distinct_arrangement, within_arrangement}
 use Rattle.spec_sorting.proofs.Partners.{each_weaker, each_both}
-use Rattle.spec_classes.specs.Members.{joined, IsClass, KeysRise, AreClasses}
-use Rattle.spec_classes.specs.Meetings.{of_key}
+use Rattle.spec_classes.specs.Members.{joined, IsClass, KeysRise}
 use Rattle.spec_classes.proofs.Members.{are_classes}
 
 -- what compares as equal is found by its key, and nothing else

@@ -1,16 +1,15 @@
 -- A delta that pairs classes of equal key is told by how the classes meet, one piece a meeting.
-use Rattle.std.proofs.Common.{◌≡◌, ◌∙◌, ℕ, zero, suc, ◌+◌, ◌-◌, ◌<◌, ◌≤◌, ◌||◌, ◌&&◌, Bool, true, false, List, [], ◌∷◌, ◌++◌, length, map, take, drop, refl, ap, sym, subst, arith, inl, inr}
-use Rattle.std.specs.Prelude.{Option, Some, None, not, if◌then◌else◌, slice_get, nat_le}
+use Rattle.std.proofs.Common.{◌≡◌, ◌∙◌, ℕ, suc, ◌-◌, ◌≤◌, ◌||◌, Bool, true, false, List, [], ◌∷◌, ◌++◌, map, take, drop, refl, ap, sym, arith}
+use Rattle.std.specs.Prelude.{Option, Some, None, not, if◌then◌else◌}
 use Rattle.std.specs.List.{list_any, AllByRecursion as Each}
-use Rattle.std.proofs.lemmas.Bool.{cases_Bool, le-leb}
+use Rattle.std.proofs.lemmas.Bool.{le-leb}
 use Rattle.spec_value.specs.Tree.{Tree}
 use Rattle.spec_lists.specs.Piece.{Piece, kept, updated, deleted, inserted}
 use Rattle.spec_lists.specs.Pairs.{Pair}
-use Rattle.spec_lists.specs.Delta.{Delta}
-use Rattle.spec_lists.specs.Making.{replaced, is_same, piece_of, Rest, next_piece, told_to, rest_after, pieces_from, pieces_by}
+use Rattle.spec_lists.specs.Making.{is_same, piece_of, Rest, next_piece, told_to, rest_after, pieces_from, pieces_by}
 use Rattle.spec_lists.proofs.Plains.{same_itself}
 use Rattle.spec_views.specs.Arrangement.{Comparison}
-use Rattle.spec_views.specs.Classes.{Class, first_of, has_key_of, classes, pair_of_class, pairs_of_classes, class_pairs}
+use Rattle.spec_views.specs.Classes.{Class, classes, pair_of_class, pairs_of_classes, class_pairs}
 use Rattle.spec_classes.specs.Meetings.{Meeting, goes, comes, meets, of_key, meet, meetings_by, meetings}
 
 abbrev rest : ℕ → ℕ → List Tree → List Tree → Rest

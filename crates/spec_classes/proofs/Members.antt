@@ -1,7 +1,7 @@
 -- The classes of a list lie one after another in its sorted order, their keys rise, and the first member of each is the one
 -- that hasn't the key of the one before it.
 use Rattle.std.proofs.Common.{◌≡◌, ◌∙◌, ◌⊎◌, ℕ, suc, ◌<◌, ◌++◌, Bool, true, false, List, [], ◌∷◌, map, refl, ap, sym, subst, arith, inl, inr}
-use Rattle.std.specs.Prelude.{not, if◌then◌else◌}
+use Rattle.std.specs.Prelude.{not}
 use Rattle.std.specs.List.{AllByRecursion as Each}
 use Rattle.std.specs.Cmp.{IsTotalOrder}
 use Rattle.std.specs.Ordering.{is_eq}
@@ -10,13 +10,13 @@ use Rattle.std.specs.declared.cmp.Ordering.TheVariants.{Less, Equal, Greater}
 use Rattle.std.proofs.lemmas.Bool.{cases_Bool}
 use Rattle.spec_value.specs.Tree.{Tree}
 use Rattle.spec_views.specs.Source.{element_at}
-use Rattle.spec_views.specs.Arrangement.{Comparison, is_before, arrangement, marks_after, same_key_marks}
+use Rattle.spec_views.specs.Arrangement.{Comparison, is_before, arrangement, marks_after}
 use Rattle.spec_views.specs.Classes.{Class, first_of, has_key_of, with_member, classes_among, classes}
-use Rattle.spec_views.proofs.SortedPositions.{Every, Sorted}
+use Rattle.spec_views.proofs.SortedPositions.{Sorted}
 use Rattle.spec_views.proofs.Arrangements.{before_cases, arrangement_is, sorted_arrangement}
 use Rattle.spec_sorting.specs.Moves.{IsRising}
 use Rattle.spec_sorting.proofs.Partners.{each_weaker}
-use Rattle.spec_classes.specs.Members.{joined, first_marks, firsts, IsClass, KeysRise, AreClasses}
+use Rattle.spec_classes.specs.Members.{firsts, IsClass, AreClasses}
 
 module _ (compare : Comparison) (o : IsTotalOrder compare) (xs : List Tree) where
   -- one that compares as equal has the key
@@ -50,13 +50,16 @@ module _ (compare : Comparison) (o : IsTotalOrder compare) (xs : List Tree) wher
       let less : i < k = smaller before in
       record {
         whole = ap (λ js. i ∷ js) g.whole;
-        each = (record {
+        each = (
+          record {
             first = i;
             others = k ∷ ks;
             are = refl;
             tied = ((tied, less), all_tied tied less g.each.0);
             in_order = (omega (arith, less), order_on g.each.0);
-          }, g.each.1);
+          },
+          g.each.1,
+        );
         rise = (each_weaker _ _ (λ e more. less_on i k (first_of e) before more) cs g.rise.0, g.rise.1);
         marks = rw same (both true false (map not (marks_after compare xs k is)) (map (λ j. false) ks ++ firsts cs) (tail g.marks));
       }

@@ -1,8 +1,8 @@
 -- The plain pairs of a delta, found by either place.
-use Rattle.std.proofs.Common.{◌≡◌, ◌≢◌, ◌∙◌, ◌⊎◌, ℕ, zero, suc, ◌+◌, ◌<◌, ◌≤◌, ◌==◌, ◌&&◌, ◌||◌, Bool, true, false, List, [], ◌∷◌, length, refl, ap, sym, subst, arith, inl, inr}
-use Rattle.std.specs.Prelude.{not, nat_lt, Some, None, slice_get}
+use Rattle.std.proofs.Common.{◌≡◌, ◌∙◌, ℕ, zero, suc, ◌+◌, ◌<◌, ◌==◌, ◌&&◌, ◌||◌, Bool, true, false, List, [], ◌∷◌, refl, ap, sym, arith}
+use Rattle.std.specs.Prelude.{not, nat_lt, slice_get}
 use Rattle.std.specs.List.{list_any, AllByRecursion as Each}
-use Rattle.std.proofs.lemmas.Bool.{cases_Bool, cases_eq, cases_lt, eq-eqb, ne_eqb, eqb-true, lt-ltb, le-ltb, ltb-true}
+use Rattle.std.proofs.lemmas.Bool.{eq-eqb, ne_eqb, eqb-true}
 use Rattle.spec_value.specs.Tree.{Tree}
 use Rattle.spec_lists.specs.Piece.{old_len, new_len}
 use Rattle.spec_lists.specs.Pairs.{Pair, pairs, pairs_of_old}
@@ -12,9 +12,7 @@ use Rattle.spec_lists.specs.Leads.{LeadsFrom, applied}
 use Rattle.spec_lists.proofs.Pairs.{sides_tell_pairs}
 use Rattle.spec_views.specs.Source.{element_at}
 use Rattle.spec_views.specs.Classes.{is_kept_old, is_kept_new, is_plain_pair}
-use Rattle.spec_sorting.proofs.Partners.{each_both, IsPaired, pairs_are, AreOrdered, pairs_ordered}
-use Rattle.spec_classes.specs.declared.First.{First}
-use Rattle.spec_classes.specs.declared.First.TheVariants.{Gone, Plain}
+use Rattle.spec_sorting.proofs.Partners.{pairs_are, pairs_ordered}
 use Rattle.spec_classes.specs.Slots.{read_by, read_after}
 use Rattle.spec_classes.specs.Told.{is_still}
 

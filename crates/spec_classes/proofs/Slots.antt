@@ -1,16 +1,14 @@
 -- What is told by the touched keys alone.
-use Rattle.std.proofs.Common.{◌≡◌, ◌∙◌, ℕ, zero, suc, ◌+◌, ◌-◌, ◌≤◌, ◌||◌, ◌++◌, Bool, true, false, List, [], ◌∷◌, length, map, refl, ap, sym, subst, arith, inl, inr}
-use Rattle.std.specs.Prelude.{None, if◌then◌else◌}
+use Rattle.std.proofs.Common.{◌≡◌, ◌∙◌, ℕ, zero, suc, ◌+◌, ◌-◌, ◌≤◌, ◌||◌, ◌++◌, Bool, true, false, List, [], ◌∷◌, length, map, refl, ap, sym, arith}
+use Rattle.std.specs.Prelude.{None}
 use Rattle.std.specs.List.{list_any, AllByRecursion as Each}
-use Rattle.std.proofs.lemmas.Bool.{cases_Bool}
-use Rattle.spec_value.specs.Tree.{Tree}
 use Rattle.spec_lists.specs.Piece.{Piece, kept, identity}
 use Rattle.spec_lists.specs.Pairs.{pairs}
 use Rattle.spec_lists.specs.Delta.{Delta}
 use Rattle.spec_views.specs.Classes.{Class, keeps_members}
 use Rattle.spec_classes.specs.declared.Slot.{Slot}
 use Rattle.spec_classes.specs.Meetings.{Meeting, goes, comes, meets, meet, meetings_by}
-use Rattle.spec_classes.specs.Slots.{old_class, new_class, slots_from, kept_before, after_one, told_by}
+use Rattle.spec_classes.specs.Slots.{old_class, new_class, slots_from, told_by}
 
 -- how many classes of the old list are of these meetings
 abbrev pub old_count : List Meeting → ℕ

@@ -1,13 +1,13 @@
 -- A unique list tells of a change what the touched keys say.
-use Rattle.std.proofs.Common.{◌≡◌, ◌∙◌, ◌⊎◌, ℕ, zero, suc, ◌+◌, ◌-◌, ◌<◌, ◌≤◌, ◌&&◌, ◌||◌, ◌==◌, Bool, true, false, List, [], ◌∷◌, ◌++◌, length, map, refl, ap, sym, subst, arith, inl, inr}
-use Rattle.std.specs.Prelude.{Option, Some, None, slice_get, nat_lt, if◌then◌else◌}
+use Rattle.std.proofs.Common.{◌≡◌, ◌∙◌, ◌⊎◌, ℕ, suc, ◌-◌, ◌<◌, ◌&&◌, ◌||◌, Bool, true, false, List, [], ◌∷◌, length, refl, ap, sym, subst, arith, inl, inr}
+use Rattle.std.specs.Prelude.{Option, Some, None, slice_get, if◌then◌else◌}
 use Rattle.std.specs.List.{list_any, list_all, AllByRecursion as Each}
 use Rattle.std.specs.Cmp.{IsTotalOrder, tied_back, alike_right}
-use Rattle.std.specs.Ordering.{is_eq, ordering_reverse}
-use Rattle.std.specs.declared.cmp.Ordering.TheVariants.{Less, Equal, Greater}
-use Rattle.std.proofs.lemmas.Bool.{cases_order, eq-eqb, lt-ltb, le-ltb, ltb-true}
+use Rattle.std.specs.Ordering.{ordering_reverse}
+use Rattle.std.specs.declared.cmp.Ordering.TheVariants.{Less, Equal}
+use Rattle.std.proofs.lemmas.Bool.{cases_order, eq-eqb, lt-ltb, ltb-true}
 use Rattle.spec_value.specs.Tree.{Tree}
-use Rattle.spec_lists.specs.Piece.{Piece, kept, updated, deleted, inserted}
+use Rattle.spec_lists.specs.Piece.{Piece, kept, updated, deleted}
 use Rattle.spec_lists.specs.Pairs.{pairs}
 use Rattle.spec_lists.specs.Sides.{Item, plain, changed, lone, sides}
 use Rattle.spec_lists.specs.Delta.{Delta}
@@ -15,18 +15,15 @@ use Rattle.spec_lists.specs.Leads.{LeadsFrom, applied}
 use Rattle.spec_lists.proofs.DeltaLeads.{length-applied, length_from}
 use Rattle.spec_views.specs.Source.{element_at}
 use Rattle.spec_views.specs.Arrangement.{Comparison}
-use Rattle.spec_views.specs.Classes.{Class, first_of, classes, is_kept_old, is_kept_new, is_plain_pair, keeps_members}
-use Rattle.spec_views.specs.Unique.{shown_member, unique_view, unique_follow}
-use Rattle.spec_views.proofs.SortedPositions.{In}
+use Rattle.spec_views.specs.Classes.{Class, first_of, classes, is_kept_old, is_kept_new, is_plain_pair}
+use Rattle.spec_views.specs.Unique.{shown_member, unique_follow}
 use Rattle.spec_sorting.proofs.Partners.{each_weaker, each_true}
-use Rattle.spec_classes.specs.declared.First.{First}
-use Rattle.spec_classes.specs.declared.First.TheVariants.{Gone, Plain}
-use Rattle.spec_classes.specs.Members.{IsClass, KeysRise}
+use Rattle.spec_classes.specs.Members.{KeysRise}
 use Rattle.spec_classes.specs.Meetings.{Meeting, goes, comes, meets, of_key, meetings}
 use Rattle.spec_classes.specs.Slots.{read_by, read_after, slots, told_by}
 use Rattle.spec_classes.specs.Told.{first_value, is_still, unique_piece}
 use Rattle.spec_classes.proofs.Members.{are_classes}
-use Rattle.spec_classes.proofs.Keys.{key_tied, greater_not, IsWhole, classes_whole, IsMember, member_is}
+use Rattle.spec_classes.proofs.Keys.{key_tied, greater_not, IsWhole, classes_whole, member_is}
 use Rattle.spec_classes.proofs.PlainPairs.{partner_of_old, partner_of_new, plain_one, plain_order, still_plain}
 use Rattle.spec_classes.proofs.Meets.{IsClear, ShowsSame, CanMeet, piece_at, told_by_meetings}
 use Rattle.spec_classes.proofs.Slots.{AllMeet, Here, all_meet, Agree, told_slots, old_counted}
@@ -138,15 +135,18 @@ module _ (compare : Comparison) (o : IsTotalOrder compare) (d : Delta) (xs : Lis
   agree r s [] all = tt
   agree r s (goes c ∷ ms) all = (ap deleted (read_value d xs leads (first_of c)), agree (suc r) s ms all)
   agree r s (comes e ∷ ms) all = (refl, agree r (suc s) ms all)
-  agree r s (meets c e ∷ ms) all = ((
-    (λ kept_all.
-      let both = both_kept (list_all (is_kept_old (pairs d)) c) (list_all (is_kept_new (pairs d)) e) kept_all in
-      let h = all.0 in
-      let first : plainly c e ≡ true = firsts_paired c e h.0 h.1.0 h.1.1 (head_kept (is_kept_old (pairs d)) c h.0.class.first h.0.class.others h.0.class.are both.0) (head_kept (is_kept_new (pairs d)) e h.1.0.class.first h.1.0.class.others h.1.0.class.are both.1) in
-      ap (λ t. if t then kept else updated (shown_member xs c) (shown_member ys e)) first),
-    (λ touched. ap (λ t. if t then kept else updated (first_value xs ys (read_after d (first_of c))) (element_at ys (first_of e))) (still_plain d (first_of c) (first_of e))
-      ∙ ap (λ v. if plainly c e then kept else updated v (element_at ys (first_of e))) (read_value d xs leads (first_of c))),
-  ), agree (suc r) (suc s) ms all.1)
+  agree r s (meets c e ∷ ms) all = (
+    (
+      (λ kept_all.
+          let both = both_kept (list_all (is_kept_old (pairs d)) c) (list_all (is_kept_new (pairs d)) e) kept_all in
+          let h = all.0 in
+          let first : plainly c e ≡ true = firsts_paired c e h.0 h.1.0 h.1.1 (head_kept (is_kept_old (pairs d)) c h.0.class.first h.0.class.others h.0.class.are both.0) (head_kept (is_kept_new (pairs d)) e h.1.0.class.first h.1.0.class.others h.1.0.class.are both.1) in
+          ap (λ t. if t then kept else updated (shown_member xs c) (shown_member ys e)) first),
+      (λ touched. ap (λ t. if t then kept else updated (first_value xs ys (read_after d (first_of c))) (element_at ys (first_of e))) (still_plain d (first_of c) (first_of e))
+          ∙ ap (λ v. if plainly c e then kept else updated v (element_at ys (first_of e))) (read_value d xs leads (first_of c))),
+    ),
+    agree (suc r) (suc s) ms all.1,
+  )
 
   -- what a unique list tells, by the touched keys alone
   pub unique_told : unique_follow compare xs d ≡ told_by (unique_piece xs ys) (length (classes compare xs)) 0 0 (slots compare xs d)

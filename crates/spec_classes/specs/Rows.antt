@@ -1,19 +1,17 @@
 -- Small cases of the definitions, worked out. Elements are pairs of a key and a name.
 use Rattle.std.specs.Prelude.{◌≡◌, ℕ, pos, List, [], ◌∷◌, length, refl, Some, None, false}
-use Rattle.spec_value.specs.Tree.{Tree, num, text, items_of}
-use Rattle.spec_value.specs.Order.{cmp}
+use Rattle.spec_value.specs.Tree.{Tree, num, items_of}
 use Rattle.spec_lists.specs.Piece.{kept, updated, deleted, inserted}
 use Rattle.spec_lists.specs.Delta.{Delta}
 use Rattle.spec_lists.specs.Leads.{applied}
 use Rattle.spec_lang.specs.Sorting.{order_cmp}
 use Rattle.spec_views.specs.Arrangement.{Comparison}
 use Rattle.spec_views.specs.Classes.{classes}
-use Rattle.spec_views.specs.Unique.{unique_view, unique_follow}
+use Rattle.spec_views.specs.Unique.{unique_follow}
 use Rattle.spec_views.specs.Grouping.{grouping_view, grouping_follow}
 use Rattle.spec_classes.specs.declared.First.{First}
 use Rattle.spec_classes.specs.declared.First.TheVariants.{Gone, Plain}
 use Rattle.spec_classes.specs.declared.Slot.{Slot}
-use Rattle.spec_classes.specs.Meetings.{goes, comes, meets, meetings}
 use Rattle.spec_classes.specs.Slots.{slots, told_by}
 use Rattle.spec_classes.specs.Told.{unique_piece, group_piece}
 

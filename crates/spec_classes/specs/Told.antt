@@ -2,7 +2,6 @@
 use Rattle.std.specs.Prelude.{◌==◌, ℕ, Bool, false, List, if◌then◌else◌, Option, Some, None}
 use Rattle.spec_value.specs.Tree.{Tree}
 use Rattle.spec_lists.specs.Piece.{Piece, kept, updated, deleted, inserted}
-use Rattle.spec_lists.specs.Delta.{Delta}
 use Rattle.spec_views.specs.Source.{element_at}
 use Rattle.spec_classes.specs.declared.First.{First}
 use Rattle.spec_classes.specs.declared.First.TheVariants.{Gone, Plain}
