@@ -10,3 +10,4 @@ pub mod Runs
 pub mod Spans
 pub mod FoundClasses
 pub mod Meetings
+pub mod BothSides

@@ -48,7 +48,9 @@ fn pass<S: Shelf>(
     ensures gone { at.new.gone ≡ at.old.gone }
     ensures came { at.new.came ≡ at.old.came }
 {
-    let _ = (classes, input, d);
+    let _ = classes;
+    let _ = input;
+    let _ = d;
     let kept = match (olds.get(at.gone), news.get(at.came)) {
         (Some(gone), Some(came)) => (gone.class - at.olds).min(came.class - at.news),
         (Some(gone), None) => gone.class - at.olds,
@@ -120,7 +122,8 @@ fn next_slot<S: Shelf>(
         (S.items input.now) olds.now news.now at.new }
     ensures further { at.old.gone + at.old.came < at.new.gone + at.new.came }
 {
-    let _ = (input, d);
+    let _ = input;
+    let _ = d;
     let gone = next_at(olds, at.gone, at.olds);
     let came = next_at(news, at.came, at.news);
     if let Some(touched) = gone {

@@ -1,5 +1,7 @@
 use Rattle.gl_classes.proofs.OldValues.{old_told}
-use Rattle.gl_classes.proofs.Meetings.{one_met}
+use Rattle.gl_classes.proofs.BothSides.{old_stays}
+use Rattle.gl_classes.proofs.KeptMembers.{keeps_new}
+use Rattle.gl_classes.proofs.FirstMarks.{edits_make}
 use Rattle.gl_classes.proofs.values.old_value.Goals as goal
 
 pub returns : goal.returns
