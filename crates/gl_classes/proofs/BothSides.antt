@@ -1,4 +1,4 @@
--- Whether a touched class of the old list has one of its key in the new list.
+-- Whether a touched class of the one list has one of its key in the other.
 use Rattle.std.proofs.Common.{◌≡◌, ◌∙◌, ◌⊎◌, ℕ, zero, suc, ◌<◌, ◌≤◌, ◌&&◌, ◌||◌, Bool, true, false, List, [], ◌∷◌, length, map, refl, ap, sym, subst, arith, inl, inr}
 use Rattle.std.specs.Prelude.{not, Option, Some, None, slice_get}
 use Rattle.std.specs.Option.{is_some}
@@ -16,7 +16,7 @@ use Rattle.spec_sorting.proofs.SortedPositions.{In}
 use Rattle.spec_classes.specs.Classes.{Class, first_of, classes, is_kept_old, is_kept_new}
 use Rattle.spec_classes.specs.Meetings.{of_key}
 use Rattle.spec_classes.proofs.Keys.{key_tied, tied_is_key, IsWhole, classes_whole, IsMember, member_is}
-use Rattle.spec_classes.proofs.Kept.{any_here, old_meets, none_kept_meets}
+use Rattle.spec_classes.proofs.Kept.{any_here, old_meets, new_meets, none_kept_meets, none_kept_met}
 use Rattle.gl_classes.specs.declared.touched.Touched.{Touched}
 use Rattle.gl_classes.specs.Finding.{meets, stays_if}
 use Rattle.gl_classes.proofs.TouchedClasses.{IsTouchedClass}
@@ -150,3 +150,71 @@ module _ (compare : Comparison) (o : IsTotalOrder compare) (d : Delta) (xs : Lis
           let j = h.some_kept q e in
           first_true t.stays _ (h.stays_is ∙ ap is_some e) ∙ sym (old_meets compare o d xs leads h.class whole j.0 j.2 j.3)
       by None e = first_false t.stays _ (h.stays_is ∙ ap is_some e) ∙ none e
+
+module _ (compare : Comparison) (o : IsTotalOrder compare) (d : Delta) (xs : List Tree) (leads : LeadsFrom d xs) (olds : List Touched)
+    (olds_are : Each (IsTouchedClass xs compare (is_kept_old (pairs d))) olds)
+    (others : (r : ℕ) (c : Class) → slice_get (classes compare xs) r ≡ Some c → (In r (map (λ (t : Touched). t.class) olds) → ⊥) → list_all (is_kept_old (pairs d)) c ≡ true) where
+  -- and one of the new list exactly where the old list has a class of its key
+  pub new_stays : (u : Touched) (h : IsTouchedClass (applied d xs) compare (is_kept_new (pairs d)) u)
+      → (stays_if u (list_any (λ t. meets compare xs (applied d xs) t u) olds)).stays ≡ list_any (λ c. of_key compare xs (applied d xs) c h.class) (classes compare xs)
+  new_stays u h = by u.plain refl
+    where
+      whole : IsWhole compare o (applied d xs) h.class
+      whole = each_at (IsWhole compare o (applied d xs)) (classes compare (applied d xs)) u.class h.class (classes_whole compare o (applied d xs)) h.at
+
+      first_true : (s v : Bool) → s ≡ true → (s || v) ≡ true
+      first_true true v e = refl
+      first_true false v e = absurd cc
+
+      first_false : (s v : Bool) → s ≡ false → (s || v) ≡ v
+      first_false true v e = absurd cc
+      first_false false v e = refl
+
+      alike : (c e : Class) → IsWhole compare o xs c → IsWhole compare o (applied d xs) e → (i j : ℕ) → In i c → In j e
+          → (compare (element_at xs i) (element_at (applied d xs) j) ≡ Equal → of_key compare xs (applied d xs) c e ≡ true) × (of_key compare xs (applied d xs) c e ≡ true → compare (element_at xs i) (element_at (applied d xs) j) ≡ Equal)
+      alike c e w v i j i_in j_in =
+          let one = (member_is compare o xs c w.class i i_in).tied in
+          let other = (member_is compare o (applied d xs) e v.class j j_in).tied in (
+            (λ tied. tied_is_key _ (o.congr _ _ (element_at (applied d xs) (first_of e)) one ∙ (o.congr _ _ (element_at (applied d xs) (first_of e)) tied ∙ tied_back o _ _ other))),
+            (λ key. o.congr _ _ (element_at (applied d xs) j) (tied_back o _ _ one) ∙ (o.congr _ _ (element_at (applied d xs) j) (key_tied _ key) ∙ other)),
+          )
+
+      reached : (r : ℕ) (b : Class) → slice_get (classes compare xs) r ≡ Some b → of_key compare xs (applied d xs) b h.class ≡ true → IsWhole compare o xs b → u.plain ≡ None
+          → list_any (λ t. meets compare xs (applied d xs) t u) olds ≡ true
+      reached r b at key w e = elim (cases_class r olds) [
+        | inl found ↦
+            let t = each_at (IsTouchedClass xs compare (is_kept_old (pairs d))) olds found.0 found.1 olds_are found.2 in
+            let same : t.class ≡ b = some_same t.class b (sym t.at ∙ (ap (slice_get (classes compare xs)) found.3 ∙ at)) in
+            any_here (λ v. meets compare xs (applied d xs) v u) olds found.0 found.1 found.2
+            (tied_is_key _ ((alike b h.class w whole found.1.source u.source (subst (In found.1.source) same t.member) h.member).1 key))
+        | inr absent ↦
+            let all : list_all (is_kept_old (pairs d)) b ≡ true = others r b at absent in
+            let kept : is_kept_old (pairs d) w.class.first ≡ true = head_kept w.class.first w.class.others (sym (ap (list_all (is_kept_old (pairs d))) w.class.are) ∙ all) in
+            absurd (none_kept_met compare o d xs leads b h.class w whole key (h.none_kept e) w.class.first (subst (In w.class.first) (sym w.class.are) (inl refl)) kept)
+      ]
+        where
+          parts : (m n : Bool) → (m && n) ≡ true → m ≡ true
+          parts true n f = refl
+          parts false n f = absurd cc
+
+          head_kept : (f : ℕ) (fs : List ℕ) → list_all (is_kept_old (pairs d)) (f ∷ fs) ≡ true → is_kept_old (pairs d) f ≡ true
+          head_kept f fs all = parts (is_kept_old (pairs d) f) (list_all (is_kept_old (pairs d)) fs) all
+
+      none : u.plain ≡ None → list_any (λ t. meets compare xs (applied d xs) t u) olds ≡ list_any (λ c. of_key compare xs (applied d xs) c h.class) (classes compare xs)
+      none e = one_way _ _
+        (λ any.
+          let f = has_one (λ t. meets compare xs (applied d xs) t u) olds any in
+          let t = each_at (IsTouchedClass xs compare (is_kept_old (pairs d))) olds f.index f.item olds_are f.at in
+          let w = each_at (IsWhole compare o xs) (classes compare xs) f.item.class t.class (classes_whole compare o xs) t.at in
+          any_here (λ c. of_key compare xs (applied d xs) c h.class) (classes compare xs) f.item.class t.class t.at
+          ((alike t.class h.class w whole f.item.source u.source t.member h.member).0 (key_tied _ f.holds)))
+        (λ any.
+          let f = has_one (λ c. of_key compare xs (applied d xs) c h.class) (classes compare xs) any in
+          reached f.index f.item f.at f.holds (each_at (IsWhole compare o xs) (classes compare xs) f.index f.item (classes_whole compare o xs) f.at) e)
+
+      by : (q : Option ℕ) → u.plain ≡ q
+          → (stays_if u (list_any (λ t. meets compare xs (applied d xs) t u) olds)).stays ≡ list_any (λ c. of_key compare xs (applied d xs) c h.class) (classes compare xs)
+      by (Some q) e =
+          let j = h.some_kept q e in
+          first_true u.stays _ (h.stays_is ∙ ap is_some e) ∙ sym (new_meets compare o d xs leads h.class whole j.0 j.2 j.3)
+      by None e = first_false u.stays _ (h.stays_is ∙ ap is_some e) ∙ none e

@@ -1,7 +1,4 @@
 use Rattle.gl_classes.proofs.OldValues.{old_told}
-use Rattle.gl_classes.proofs.BothSides.{old_stays}
-use Rattle.gl_classes.proofs.KeptMembers.{keeps_new}
-use Rattle.gl_classes.proofs.FirstMarks.{edits_make}
 use Rattle.gl_classes.proofs.values.old_value.Goals as goal
 
 pub returns : goal.returns
