@@ -3,4 +3,5 @@ pub mod Notes
 pub mod Lists
 pub mod Backward
 pub mod Rooms
+pub mod MarkSteps
 pub use Rattle.spec_lang.proofs.Sortings

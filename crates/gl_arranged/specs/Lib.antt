@@ -1,5 +1,6 @@
 pub mod Changes
 pub mod Kept
+pub mod Marks
 pub mod Notes
 pub mod Stands
 pub mod Steps

@@ -5,11 +5,11 @@ ghost use Rattle.gl_arranged.specs.Steps.{taken_back, all_taken_back, CanTakeBac
 
 use gl_order::{OrderTree, Spot};
 
-/// One step: the element at a source place was taken out, where it had this spot, or one was put in there.
+/// One step: the element at a source place was taken out, where it had this spot, or one was put in there, where it has it.
 #[derive(Clone, Copy)]
 pub enum Step {
     Removed(usize, Spot),
-    Inserted(usize),
+    Inserted(usize, Spot),
 }
 
 // Takes a step back.
@@ -19,7 +19,7 @@ fn take_back(tree: &mut OrderTree, step: Step)
 {
     match step {
         Step::Removed(source, spot) => tree.put_back(source, spot),
-        Step::Inserted(source) => {
+        Step::Inserted(source, _) => {
             tree.remove(source);
         }
     }

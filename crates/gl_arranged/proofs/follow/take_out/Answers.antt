@@ -9,8 +9,10 @@ use Rattle.gl_order.specs.Arranged.{Arranged, moved_down, IsOrdered}
 use Rattle.gl_arranged.specs.declared.changed.Changed.{Changed}
 use Rattle.gl_arranged.specs.declared.step.Step.TheVariants.{Removed}
 use Rattle.gl_arranged.specs.Changes.{without}
+use Rattle.gl_arranged.specs.Marks.{made, inserted_len}
 use Rattle.gl_arranged.proofs.Lists.{rising_room}
 use Rattle.gl_arranged.proofs.Backward.{leads_nowhere, leads_more}
+use Rattle.gl_arranged.proofs.MarkSteps.{marks_long, removed_is, can_remove, lead_more, inserted_last}
 use Rattle.gl_arranged.proofs.follow.take_out.Goals as goal
 
 pub loop-left-init : goal.loop-left-init
@@ -18,6 +20,8 @@ loop-left-init c = record {
   within = omega arith;
   ordered = λ compare xs o h. subst (λ cs. IsOrdered compare (without cs xs) c.args.tree.now) (sym (drop-length c.args.gone.now)) h;
   undo = leads_nowhere c.args.undo.now.items c.args.tree.now;
+  marks = λ compare xs start o h led. led;
+  inserted = refl;
   spare = refl;
   places = refl;
   room = refl;
@@ -64,6 +68,12 @@ loop-left-preserved c =
             has_spare = omega (arith, c.remove-spot.ensures.spare);
             first = c.remove-spot.ensures.first;
           });
+      marks = λ compare xs start o h led.
+          let long = marks_long compare (without (drop c.loop-left.left gone) xs) old (i.ordered compare xs o h) in
+          let value : new.marks ≡ made (Removed one.source spot) old.marks = ap (λ (a : Arranged). a.marks) c.remove-spot.ensures.value ∙ removed_is old.marks one.source spot c.remove-spot.ensures.before c.remove-spot.ensures.after in
+          lead_more c.loop-left.undo.items c.push_reserved.new.self.items (Removed one.source spot) start old.marks new.marks (i.marks compare xs start o h led) c.push_reserved.ensures.items
+          (can_remove old.marks one.source spot (omega (arith, within, long)) c.remove-spot.ensures.after) (sym value);
+      inserted = omega (arith, i.inserted, ap inserted_len c.push_reserved.ensures.items, inserted_last c.loop-left.undo.items (Removed one.source spot));
       spare = omega (arith, i.spare, c.remove-spot.ensures.spare, more);
       places = omega (arith, i.places, fewer, more);
       room = room ∙ i.room;

@@ -1,0 +1,13 @@
+pub mod Positions
+pub mod OldValues
+pub mod FirstMarks
+pub mod ChangedPlaces
+pub mod Searches
+pub mod TouchedClasses
+pub mod KeptMembers
+pub mod Standing
+pub mod Runs
+pub mod Spans
+pub mod FoundClasses
+pub mod Meetings
+pub mod BothSides

@@ -1,0 +1,9 @@
+pub mod Meets
+pub mod Members
+pub mod PlainPairs
+pub mod Keys
+pub mod Slots
+pub mod Unique
+pub mod Kept
+pub mod Grouping
+pub mod Steps
