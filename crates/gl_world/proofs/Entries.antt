@@ -20,7 +20,6 @@ use Rattle.spec_runs.specs.Section.{state_after, replies_to, section_deltas}
 use Rattle.spec_runs.specs.Telling.{tellings}
 use Rattle.spec_runs.specs.Entry.{taken_by}
 use Rattle.spec_runs.specs.Fits.{Fits, BadPlace, Reason, reason_at, bad_place_from}
-use Rattle.spec_runs.specs.Run.{run}
 use Rattle.spec_runs.proofs.Runs.{state_more, replies_more, told_more, taken_more}
 use Rattle.spec_runs.proofs.KeptKinds.{length-state, within_entry_kinds}
 use Rattle.spec_runs.proofs.Ordered.{run_sound, heard_within}

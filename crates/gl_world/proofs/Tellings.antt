@@ -1,8 +1,8 @@
 -- What the listeners of a section hear.
-use Rattle.std.proofs.Common.{◌≡◌, ◌∙◌, ℕ, zero, suc, ◌<◌, List, [], ◌∷◌, length, refl, ap, sym, subst, eq-eqb}
-use Rattle.std.specs.Prelude.{true, Option, Some, None, option_map, slice_get, slice_index_or}
+use Rattle.std.proofs.Common.{◌≡◌, ◌∙◌, ℕ, zero, suc, ◌<◌, List, [], ◌∷◌, length, ap, subst, eq-eqb}
+use Rattle.std.specs.Prelude.{Option, Some, None, option_map, slice_get, slice_index_or}
 use Rattle.std.specs.List.{AllByRecursion}
-use Rattle.spec_states.specs.Delta.{Delta, no_change, is_identity}
+use Rattle.spec_states.specs.Delta.{Delta}
 use Rattle.spec_states.specs.Changes.{changed_len}
 use Rattle.spec_states.proofs.ChangeCounts.{changed_len-identity}
 use Rattle.spec_states.specs.ListenerDecl.{ListenerDecl}

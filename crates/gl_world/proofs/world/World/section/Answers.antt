@@ -62,10 +62,12 @@ tell-requires-clause-deltas g c =
     let plan : c.reserve.new.self.plan ≡ w.plan = c.reserve.ensures.plan ∙ c.self.invariant.listeners in
     let all : Deltas = section_deltas k.limit (state_of k) c.commands.result.now in
     let Handed : Plan → Type 0 = λ p. AreHanded p deltas heard in
-    let Heard : Plan → Type 0 = λ p. AreHeard p all heard in
-    (all, subst Heard (sym plan)
-    (world_told i c.commands.result.now deltas heard c.self.invariant c.in_ok-taken.ensures.told
-    (subst Handed plan c.in-Ok.ensures)))
+    let Heard : Plan → Type 0 = λ p. AreHeard p all heard in (
+      all,
+      subst Heard (sym plan)
+          (world_told i c.commands.result.now deltas heard c.self.invariant c.in_ok-taken.ensures.told
+          (subst Handed plan c.in-Ok.ensures)),
+    )
 
 pub invariant_of-self-in-Ok-1 : goal.invariant_of-self-in-Ok-1
 invariant_of-self-in-Ok-1 g c =
