@@ -111,8 +111,11 @@ attach_stopped r shows old about member list xs (k.TooLong len) why stands same 
     let both = (h len).0 is in
     let shown = shown_is shows old.lists old.lens stands in
     let last = view_last old.lists member shows in
-    subst (IsRegroupStopped shows (c.Attach about member) list old) (sym by) (refl, record {
-      inside = refl;
-      past = both.0;
-      len_is = omega (arith, both.1, shown, last, ap length same);
-    })
+    subst (IsRegroupStopped shows (c.Attach about member) list old) (sym by) (
+      refl,
+      record {
+        inside = refl;
+        past = both.0;
+        len_is = omega (arith, both.1, shown, last, ap length same);
+      },
+    )

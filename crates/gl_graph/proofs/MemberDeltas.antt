@@ -70,9 +70,11 @@ are_of deltas shows lists lens e can = subst (AreOf deltas lists) (sym e) (by_li
     by_list : (ms : List ℕ) → ((i : ℕ) → Contains ms i → i < length deltas) → ((i : ℕ) → Contains ms i → LeadsTo (delta_told deltas shows i) (shows i))
         → AreOf deltas ms (map (λ i. length (shown_before deltas shows i)) ms)
     by_list [] within leads = tt
-    by_list (m ∷ ms) within leads =
-        (within m (Contains-here m ms m refl), old_is m (leads m (Contains-here m ms m refl)),
-        by_list ms (λ i c. within i (Contains-later m ms i c)) (λ i c. leads i (Contains-later m ms i c)))
+    by_list (m ∷ ms) within leads = (
+      within m (Contains-here m ms m refl),
+      old_is m (leads m (Contains-here m ms m refl)),
+      by_list ms (λ i c. within i (Contains-later m ms i c)) (λ i c. leads i (Contains-later m ms i c)),
+    )
 
 -- it then stands for what they show
 pub stands_later : (deltas : List (Option DeltaModel)) (shows : ℕ → List Tree) (old new : Kept) → CanFollow deltas shows old.lists
@@ -127,10 +129,13 @@ not_followed r start list shows c deltas needed old k.Memory why other told long
     subst (IsStopped limit (Some start) shows c deltas list (composite needed old.lists)) (sym by) tt
 not_followed r start list shows c deltas needed old (k.TooLong len) why other told long is by limit limited =
     let both = long len is in
-    subst (IsStopped limit (Some start) shows c deltas list (composite needed old.lists)) (sym by) (refl, inr (
-      λ e. other (same e),
-      (record { input = told.list; among = told.among; d = told.d; told = told.told }, record { past = subst (λ n. n < len) limited both.0; len_is = both.1 }),
-    ))
+    subst (IsStopped limit (Some start) shows c deltas list (composite needed old.lists)) (sym by) (
+      refl,
+      inr (
+        λ e. other (same e),
+        (record { input = told.list; among = told.among; d = told.d; told = told.told }, record { past = subst (λ n. n < len) limited both.0; len_is = both.1 }),
+      ),
+    )
   where
     same : Some start ≡ Some list → list ≡ start
     same e = cc

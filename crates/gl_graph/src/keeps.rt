@@ -38,8 +38,14 @@ use std::sync::ledger::Ledger;
 #[derive(Drop)]
 pub enum Keeps {
     Source(SourceList),
-    Over { input: u32, derived: Derived },
-    Composite { needed: Items<u32>, composite: Composite },
+    Over {
+        input: u32,
+        derived: Derived,
+    },
+    Composite {
+        needed: Items<u32>,
+        composite: Composite,
+    },
 }
 
 /// What takes a list back to where it stood before a change.
@@ -59,7 +65,10 @@ impl Keeps {
         match self {
             Keeps::Source(source) => source.len(),
             Keeps::Over { input: _, derived } => derived.len(),
-            Keeps::Composite { needed: _, composite } => composite.len(),
+            Keeps::Composite {
+                needed: _,
+                composite,
+            } => composite.len(),
         }
     }
 
@@ -77,7 +86,10 @@ impl Keeps {
                 None => None,
             },
             Keeps::Over { input, derived } => derived.find(*input, position),
-            Keeps::Composite { needed: _, composite } => member_spot(composite, position),
+            Keeps::Composite {
+                needed: _,
+                composite,
+            } => member_spot(composite, position),
         }
     }
 
@@ -167,7 +179,10 @@ impl Keeps {
                 )?;
                 Ok((out, KeepsUndo::Over(undo)))
             }
-            Keeps::Composite { needed: _, composite } => {
+            Keeps::Composite {
+                needed: _,
+                composite,
+            } => {
                 match regroup(composite, list, prefix, positions, command) {
                     Ok((out, undo)) => Ok((out, KeepsUndo::Composite(undo))),
                     Err(why) => Err(why),
@@ -192,7 +207,10 @@ impl Keeps {
                 _ => unreachable!(),
             },
             KeepsUndo::Composite(undo) => match self {
-                Keeps::Composite { needed: _, composite } => composite.retreat(undo),
+                Keeps::Composite {
+                    needed: _,
+                    composite,
+                } => composite.retreat(undo),
                 _ => unreachable!(),
             },
         }

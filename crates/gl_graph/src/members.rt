@@ -69,9 +69,7 @@ pub(crate) fn regroup(
 {
     match command {
         Command::Attach { list: _, member } => attach(composite, list, prefix, positions, *member),
-        Command::Detach { list: _, index } => {
-            detach(composite, prefix, positions, list, *index)
-        }
+        Command::Detach { list: _, index } => { detach(composite, prefix, positions, list, *index) }
         _ => unreachable!(),
     }
 }

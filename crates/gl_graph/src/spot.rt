@@ -33,11 +33,7 @@ pub(crate) fn spot_in(input: u32, at: Option<Find<'_>>) -> Option<Spot<'_>>
 }
 
 /// What a list over one input finds, where it shows children by this model.
-pub(crate) fn child_in<'a>(
-    input: u32,
-    model: &'a Kids,
-    at: Option<Find<'a>>,
-) -> Option<Spot<'a>>
+pub(crate) fn child_in<'a>(input: u32, model: &'a Kids, at: Option<Find<'a>>) -> Option<Spot<'a>>
     ensures spotted { (shows : ℕ → List Tree) → spotted result shows
         ≡ found_among (children_at model.now (shows input)) (shows input) at.entry }
     ensures on { OnSpot (λ list. list ≡ input) result }

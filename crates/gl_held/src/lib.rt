@@ -8,8 +8,6 @@ mod freezable;
 mod levels;
 mod parts;
 mod proxy;
-#[cfg(test)]
-mod tests;
 mod transaction;
 mod undo;
 

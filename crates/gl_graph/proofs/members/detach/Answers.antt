@@ -15,7 +15,7 @@ returns-in-Ok-clause-ok c about =
     let there : slice_get lists c.args.index ≡ Some c.in-Some.member = sym c.member.ensures ∙ c.in-Some.is in
     let within : c.args.index < length lists = slice_get_within lists c.args.index c.in-Some.member there in
     let same = ap shows (list_at_is lists c.args.index c.in-Some.member there)
-        ∙ sym (ap (λ (s : Kept). shown_by s.prefix s.positions s.list) c.see-shelf.ensures.seen) in
+    ∙ sym (ap (λ (s : Kept). shown_by s.prefix s.positions s.list) c.see-shelf.ensures.seen) in
     let e = c.in-Ok.ensures in
     record {
       inside = below_inside c.args.index (length lists) (λ past. omega (arith, past, within));

@@ -26,8 +26,8 @@ levels-preserved c =
       within = omega (arith, c.levels.invariant.within);
       shown = shown_more levels n level c.in-Kept.later c.requires.joined c.level.ensures (kept_within level c.levels.at c.in-Kept.later c.in-Kept.ensures);
       same = λ ys led.
-      kept_later level (undone_all (take n levels) ys) c.levels.at c.in-Kept.later (led_more levels n level ys c.level.ensures led) c.in-Kept.ensures
-      ∙ (ap (λ zs. slice_get zs c.levels.at) (sym (ap (λ k. undone_all (take k levels) ys) more ∙ undone_more levels n level ys c.level.ensures)) ∙ c.levels.invariant.same ys led);
+          kept_later level (undone_all (take n levels) ys) c.levels.at c.in-Kept.later (led_more levels n level ys c.level.ensures led) c.in-Kept.ensures
+          ∙ (ap (λ zs. slice_get zs c.levels.at) (sym (ap (λ k. undone_all (take k levels) ys) more ∙ undone_more levels n level ys c.level.ensures)) ∙ c.levels.invariant.same ys led);
     }
 
 pub returns-in-Value : goal.returns-in-Value
