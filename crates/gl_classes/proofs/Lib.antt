@@ -1,0 +1,16 @@
+pub mod Positions
+pub mod OldValues
+pub mod FirstMarks
+pub mod ChangedPlaces
+pub mod Searches
+pub mod TouchedClasses
+pub mod KeptMembers
+pub mod Standing
+pub mod Runs
+pub mod Spans
+pub mod FoundClasses
+pub mod Meetings
+pub mod BothSides
+pub mod TouchedLists
+pub mod Walk
+pub mod WalkSteps
