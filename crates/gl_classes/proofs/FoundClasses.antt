@@ -136,6 +136,7 @@ found_more bs ranked at next out ts t changed f n are =
 pub all_found : (bs : List Bool) (ranked : List Ranked) (at : ℕ) (out : List Touched) → length ranked ≤ at → AreFound bs ranked at out → AreTouched bs ranked out
 all_found bs ranked at out end f = record {
   rise = f.rise;
+  few = let found = f.few in omega (arith, found, f.within);
   each = f.each;
   all = λ p c found number.
       let r = in_index p ranked found in

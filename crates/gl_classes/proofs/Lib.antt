@@ -14,3 +14,5 @@ pub mod BothSides
 pub mod TouchedLists
 pub mod Walk
 pub mod WalkSteps
+pub mod SidesMade
+pub mod ToldSides

@@ -101,6 +101,7 @@ pub record IsTouched (firsts : List Bool) (ranked : List Ranked) (t : Touched) :
 pub record AreTouched (firsts : List Bool) (ranked : List Ranked)
     (touched : List Touched) : Type 0 where
   pub rise : IsRising 0 (map (λ t. t.class) touched)
+  pub few : length touched ≤ length ranked
   pub each : AllByRecursion (IsTouched firsts ranked) touched
   pub all : (place k : ℕ) → In place (places ranked) → class_of firsts place ≡ suc k
       → In k (map (λ t. t.class) touched)

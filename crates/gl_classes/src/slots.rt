@@ -1,21 +1,26 @@
-//! The walk over the touched classes of both lists, in key order.
+//! The touched keys, from the touched classes of both lists.
 
-ghost use Rattle.std.specs.Prelude.{◌≡◌, length};
-ghost use Rattle.gl_classes.specs.Sides.{Walks, HasMore, ArePassed, IsTold, AreMet, IsAhead, IsFewer, HasPlain, gap, how_many, plain_first, old_first};
+ghost use Rattle.std.specs.Prelude.{◌≡◌, length, IfOk};
+ghost use Rattle.spec_sorting.specs.Leads.{LeadsTo, undone};
+ghost use Rattle.gl_arranged.specs.Sorting.{order_cmp};
+ghost use Rattle.spec_classes.specs.Slots.{slots};
+ghost use Rattle.gl_classes.specs.Sides.{AreSides, AtTouched, Walks, HasMore, ArePassed, IsTold, AreMet, IsAhead, IsFewer, HasPlain, next_at, gap, alone, how_many, plain_first, old_first};
+ghost use Rattle.gl_classes.specs.Stands.{StandsFor};
 
 use crate::classes::Classes;
 use crate::touched::Touched;
 use gl_delta::Delta;
 use gl_value::Shelf;
 use spec_classes::{First, NewClass, OldClass, Slot};
+use std::alloc::{AllocError, Global};
 
 /// How far both lists were told: of how many classes of either, and of how many of the touched ones.
 #[derive(Clone, Copy)]
-pub struct Cursor {
-    pub olds: usize,
-    pub news: usize,
-    pub gone: usize,
-    pub came: usize,
+pub(crate) struct Cursor {
+    pub(crate) olds: usize,
+    pub(crate) news: usize,
+    pub(crate) gone: usize,
+    pub(crate) came: usize,
 }
 
 // How many classes there are before the next touched one.
@@ -45,8 +50,8 @@ fn fewer(one: Option<usize>, other: Option<usize>) -> usize
     }
 }
 
-/// Passes the classes that are kept before the next touched one.
-pub fn pass<S: Shelf>(
+// Passes the classes that are kept before the next touched one.
+fn pass<S: Shelf>(
     at: Cursor,
     classes: &Classes,
     input: &S,
@@ -69,6 +74,32 @@ pub fn pass<S: Shelf>(
         news: at.news + kept,
         gone: at.gone,
         came: at.came,
+    }
+}
+
+// The next touched class, if no other one stands before it.
+fn next_at(touched: &[Touched], index: usize, class: usize) -> Option<Touched>
+    ensures { result ≡ next_at touched.now index class }
+{
+    match touched.get(index) {
+        Some(next) => {
+            if next.class == class {
+                Some(*next)
+            } else {
+                None
+            }
+        }
+        None => None,
+    }
+}
+
+// The first changed member of a touched class that the other list has none of the key of.
+fn alone(touched: Option<Touched>) -> Option<usize>
+    ensures { result ≡ alone touched }
+{
+    match touched {
+        Some(one) => { if one.stays { None } else { Some(one.source) } }
+        None => None,
     }
 }
 
@@ -113,8 +144,8 @@ fn old_first(classes: &Classes, first: usize, gone: Option<Touched>, came: Optio
     }
 }
 
-/// The next touched key, of which both lists have a class, and how far both lists are told then.
-pub fn met_slot<S: Shelf>(
+// The next touched key, of which both lists have a class.
+fn met_slot<S: Shelf>(
     at: Cursor,
     classes: &Classes,
     input: &S,
@@ -157,4 +188,98 @@ pub fn met_slot<S: Shelf>(
         came: at.came + how_many(came),
     };
     (slot, next)
+}
+
+// The next touched key, where no class that isn't touched stands before it; and how far the lists are told then.
+fn next_slot<S: Shelf>(
+    at: Cursor,
+    classes: &Classes,
+    input: &S,
+    d: &Delta,
+    olds: &[Touched],
+    news: &[Touched],
+) -> (Slot, Cursor)
+    requires walks { Walks classes.now (S.items input.now) d.now.pieces olds.now news.now at }
+    requires touched { AtTouched olds.now news.now at }
+    ensures { IsTold classes.now (S.items input.now) d.now.pieces olds.now news.now at result.0
+        result.1 }
+{
+    let _olds = d.old_len();
+    let _news = classes.len();
+    let _gone = olds.len();
+    let _came = news.len();
+    let gone = next_at(olds, at.gone, at.olds);
+    let came = next_at(news, at.came, at.news);
+    match alone(gone) {
+        Some(first) => {
+            let old = OldClass {
+                index: at.olds,
+                first: First::Gone(first),
+            };
+            let slot = Slot {
+                old: Some(old),
+                new: None,
+            };
+            let next = Cursor {
+                olds: at.olds + 1,
+                news: at.news,
+                gone: at.gone + 1,
+                came: at.came,
+            };
+            (slot, next)
+        }
+        None => match alone(came) {
+            Some(first) => {
+                let new = NewClass {
+                    index: at.news,
+                    first,
+                };
+                let slot = Slot {
+                    old: None,
+                    new: Some(new),
+                };
+                let next = Cursor {
+                    olds: at.olds,
+                    news: at.news + 1,
+                    gone: at.gone,
+                    came: at.came + 1,
+                };
+                (slot, next)
+            }
+            None => met_slot(at, classes, input, d, olds, news, gone, came),
+        },
+    }
+}
+
+/// The touched keys, in key order. It takes memory for them.
+pub fn told_slots<S: Shelf>(
+    alloc: Global,
+    classes: &Classes,
+    input: &S,
+    d: &Delta,
+    olds: &[Touched],
+    news: &[Touched],
+) -> Result<Vec<Slot>, AllocError>
+    requires stands { StandsFor classes.now (S.items input.now) }
+    requires leads { LeadsTo d.now.pieces (S.items input.now) }
+    requires sides { AreSides (order_cmp classes.now.list.order)
+        (undone d.now.pieces (S.items input.now)) (S.items input.now) d.now.pieces olds.now
+        news.now }
+    ensures { IfOk result (λ told. told.items
+        ≡ slots (order_cmp classes.now.list.order) (undone d.now.pieces (S.items input.now)) d.now.pieces) }
+{
+    let mut out = Vec::new(alloc);
+    let mut at = Cursor {
+        olds: 0,
+        news: 0,
+        gone: 0,
+        came: 0,
+    };
+    'slots: while at.gone < olds.len() || at.came < news.len() {
+        let passed = pass(at, classes, input, d, olds, news);
+        let (slot, next) = next_slot(passed, classes, input, d, olds, news);
+        out.push(slot)?;
+        at = next;
+    }
+    Ok(out)
 }
