@@ -13,6 +13,7 @@ pub mod Meetings
 pub mod BothSides
 pub mod TouchedLists
 pub mod Walk
+pub mod Gaps
 pub mod WalkSteps
 pub mod SidesMade
 pub mod ToldSides

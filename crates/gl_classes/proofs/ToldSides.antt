@@ -23,7 +23,7 @@ use Rattle.gl_arranged.proofs.Lists.{fresh_changed}
 use Rattle.gl_arranged.proofs.Sortings.{order_cmp_total}
 use Rattle.gl_classes.specs.declared.touched.Touched.{Touched}
 use Rattle.gl_classes.specs.Finding.{AreOlds, AreNews, met_olds, met_news}
-use Rattle.gl_classes.specs.Follows.{AreTouchedOld}
+use Rattle.gl_classes.specs.Unmet.{AreTouchedOld}
 use Rattle.gl_classes.specs.Kept.{Kept}
 use Rattle.gl_classes.specs.Sides.{AreSides}
 use Rattle.gl_classes.specs.Stands.{StandsFor}

@@ -35,17 +35,12 @@ use Rattle.gl_classes.specs.declared.slots.Cursor.{Cursor}
 use Rattle.gl_classes.specs.Kept.{Kept}
 use Rattle.gl_classes.specs.Sides.{IsOld, IsNew, IsPlainNew, AreSides, IsAt, slots_left, next_at, alone, AtTouched, Walks, HasMore, gap_to, gap, IsFewer, ArePassed, IsTold, AreMet, how_many, at_place, plain_first, IsPlaceIn, HasPlain, old_first}
 use Rattle.gl_classes.proofs.BothSides.{each_at, some_same}
+use Rattle.gl_classes.proofs.Gaps.{some_number, none_some, fewer_low, fewer_low_too, fewer_is, is_gap}
 use Rattle.gl_classes.proofs.TouchedLists.{get_here, AreToldTo, next_ahead, told_touched, told_free, next_free, IsNextAt, next_is, next_here, alone_is}
 use Rattle.gl_classes.proofs.Walk.{head_holds, first_in, old_whole, new_whole, AreNext, both_next, at_both, left_both, free_old, free_new, skip, all_told, goes_alone, old_any, new_any, comes_alone, cursor_same, first_fails, second_fails, further}
 
 true_false : true ≡ false → ⊥
 true_false e = absurd cc
-
-some_number : (m n : ℕ) → Some m ≡ Some n → m ≡ n
-some_number m n e = cc
-
-none_some : {X : Type 0} (x : X) → None ≡ Some x → ⊥
-none_some x e = absurd cc
 
 -- there are no more classes than elements
 joined_more : (compare : Comparison) (xs : List Tree) (cs : List Class) → Each (IsClass compare xs) cs → length cs ≤ length (joined cs)
@@ -60,38 +55,6 @@ few_classes compare o xs =
     let a = are_classes compare o xs in
     let more = joined_more compare xs (classes compare xs) a.each in
     omega (arith, more, ap length a.whole, (arrangement_is compare o xs).long)
-
-fewer_low : (q r : Option ℕ) (n m : ℕ) → IsFewer q r n → q ≡ Some m → n ≤ m
-fewer_low None r n m f e = absurd cc
-fewer_low (Some k) None n m f e = omega (arith, f, some_number k m e)
-fewer_low (Some k) (Some l) n m f e = omega (arith, f.0, some_number k m e)
-
-fewer_low_too : (q r : Option ℕ) (n m : ℕ) → IsFewer q r n → r ≡ Some m → n ≤ m
-fewer_low_too q None n m f e = absurd cc
-fewer_low_too None (Some k) n m f e = omega (arith, f, some_number k m e)
-fewer_low_too (Some l) (Some k) n m f e = omega (arith, f.1, some_number k m e)
-
-fewer_is : (q r : Option ℕ) (n : ℕ) → IsFewer q r n → (q ≡ None → r ≡ None → ⊥) → (q ≡ Some n) ⊎ (r ≡ Some n)
-fewer_is None None n f some = absurd (some refl refl)
-fewer_is None (Some k) n f some = inr (ap Some (sym f))
-fewer_is (Some k) None n f some = inl (ap Some (sym f))
-fewer_is (Some k) (Some l) n f some = elim f.2 [
-  | inl e ↦ inl (ap Some (sym e))
-  | inr e ↦ inr (ap Some (sym e))
-]
-
--- so many classes before the next touched one
-record IsGap (ts : List Touched) (index class n : ℕ) : Type 0 where
-  one : Touched
-  at : slice_get ts index ≡ Some one
-  is : one.class - class ≡ n
-
-is_gap : (ts : List Touched) (index class n : ℕ) → gap ts index class ≡ Some n → IsGap ts index class n
-is_gap ts index class n e = by (slice_get ts index) refl
-  where
-    by : (q : Option Touched) → slice_get ts index ≡ q → IsGap ts index class n
-    by None at = absurd (none_some n (sym (ap (gap_to class) at) ∙ e))
-    by (Some t) at = record { one = t; at = at; is = some_number _ _ (sym (ap (gap_to class) at) ∙ e) }
 
 read_plain : (f : First) (j : ℕ) → is_still f j ≡ true → f ≡ Plain j
 read_plain (Gone i) j e = absurd cc

@@ -5,4 +5,4 @@ pub mod Firsts
 pub mod Finding
 pub mod OldValues
 pub mod Sides
-pub mod Follows
+pub mod Unmet
