@@ -68,13 +68,26 @@ can_put cs vs ws room ps at i j c x s e f g within few spare =
       spare_new = omega (arith, ap length s.news_are, new_few ps, spare, s.new_room);
     }
 
-pub put_stored : (cs ds : Colours) (vs ws xs ys : Listed) (room : ℕ) (ps : List Piece) (at i j c : ℕ) (x : Piece) → IsStored cs vs ws room ps → c ≡ colour_of x → i ≡ count_among 6 (take at cs.colours) → j ≡ count_among 10 (take at cs.colours) → changed_len ps < room → ds.colours ≡ put_in cs.colours at c 1 → ds.room ≡ cs.room → xs.values ≡ spliced vs.values i (told_old x) → xs.room ≡ vs.room → ys.values ≡ spliced ws.values j (told_new x) → ys.room ≡ ws.room → IsStored ds xs ys room (insert ps at x)
-put_stored cs ds vs ws xs ys room ps at i j c x s e f g spare colours same old old_same new new_same = record {
+-- what a piece tells is put into the two lists of values, at these positions
+pub record ArePut (vs ws xs ys : Listed) (i j : ℕ) (x : Piece) : Type 0 where
+  pub olds : xs.values ≡ spliced vs.values i (told_old x)
+  pub old_room : xs.room ≡ vs.room
+  pub news : ys.values ≡ spliced ws.values j (told_new x)
+  pub new_room : ys.room ≡ ws.room
+
+pub put_stored : (cs ds : Colours) (vs ws xs ys : Listed) (room : ℕ) (ps : List Piece) (at i j c : ℕ) (x : Piece)
+    → IsStored cs vs ws room ps → c ≡ colour_of x
+    → i ≡ count_among 6 (take at cs.colours) → j ≡ count_among 10 (take at cs.colours)
+    → changed_len ps < room
+    → ds.colours ≡ put_in cs.colours at c 1 → ds.room ≡ cs.room
+    → ArePut vs ws xs ys i j x
+    → IsStored ds xs ys room (insert ps at x)
+put_stored cs ds vs ws xs ys room ps at i j c x s e f g spare colours same put = record {
   colours_are = colours ∙ (ap (λ zs. put_in zs at c 1) s.colours_are ∙ (ap (λ k. put_in (map colour_of ps) at k 1) e ∙ colours_put ps at x));
-  olds_are = old ∙ values_put old_values told_old old_splits old_values-append vs.values ps at i x s.olds_are (rank_old cs.colours ps at i s.colours_are f);
-  news_are = new ∙ values_put new_values told_new new_splits new_values-append ws.values ps at j x s.news_are (rank_new cs.colours ps at j s.colours_are g);
-  old_room = omega (arith, s.old_room, old_same);
-  new_room = omega (arith, s.new_room, new_same);
+  olds_are = put.olds ∙ values_put old_values told_old old_splits old_values-append vs.values ps at i x s.olds_are (rank_old cs.colours ps at i s.colours_are f);
+  news_are = put.news ∙ values_put new_values told_new new_splits new_values-append ws.values ps at j x s.news_are (rank_new cs.colours ps at j s.colours_are g);
+  old_room = omega (arith, s.old_room, put.old_room);
+  new_room = omega (arith, s.new_room, put.new_room);
   run_room = omega (arith, s.run_room, same);
   within = omega (arith, changed_put ps at x, one_changed x, spare);
 }
@@ -166,15 +179,20 @@ pub record Cut (ds : Colours) (xs ys : Listed) (room : ℕ) (ps : List Piece) (a
   pub stored : IsStored ds xs ys room (remove ps at)
   pub fewer : changed_len (remove ps at) < room
 
-pub cut_stored : (cs ds : Colours) (vs ws xs ys : Listed) (room : ℕ) (ps : List Piece) (at i j : ℕ) (y : Piece) → IsStored cs vs ws room ps → (t : There cs.colours vs.values ws.values ps at i j) → kind_of t.piece ≢ kind.Kept → kind_of y ≡ kind_of t.piece → ds.colours ≡ cut_out cs.colours at 1 → ds.room ≡ cs.room → vs.values ≡ spliced xs.values i (told_old y) → xs.room ≡ vs.room → ws.values ≡ spliced ys.values j (told_new y) → ys.room ≡ ws.room → Cut ds xs ys room ps at y
-cut_stored cs ds vs ws xs ys room ps at i j y s t changed is colours same old old_same new new_same =
+pub cut_stored : (cs ds : Colours) (vs ws xs ys : Listed) (room : ℕ) (ps : List Piece) (at i j : ℕ) (y : Piece)
+    → IsStored cs vs ws room ps
+    → (t : There cs.colours vs.values ws.values ps at i j) → kind_of t.piece ≢ kind.Kept → kind_of y ≡ kind_of t.piece
+    → ds.colours ≡ cut_out cs.colours at 1 → ds.room ≡ cs.room
+    → ArePut xs ys vs ws i j y
+    → Cut ds xs ys room ps at y
+cut_stored cs ds vs ws xs ys room ps at i j y s t changed is colours same cut =
     let x = t.piece in
     let lo : length (told_old y) ≡ length (told_old x) = count_old y ∙ (ap (told_count Old) is ∙ sym (count_old x)) in
     let ln : length (told_new y) ≡ length (told_new x) = count_new y ∙ (ap (told_count New) is ∙ sym (count_new x)) in
-    let io : i ≤ length xs.values = omega (arith, t.old, ap length old, length-spliced xs.values (told_old y) i, lo, count_old x) in
-    let jn : j ≤ length ys.values = omega (arith, t.new, ap length new, length-spliced ys.values (told_new y) j, ln, count_new x) in
-    let o = values_cut old_values told_old old_splits old_values-append vs.values xs.values (told_old y) ps at i x s.olds_are t.got t.rank_old old io lo in
-    let n = values_cut new_values told_new new_splits new_values-append ws.values ys.values (told_new y) ps at j x s.news_are t.got t.rank_new new jn ln in
+    let io : i ≤ length xs.values = omega (arith, t.old, ap length cut.olds, length-spliced xs.values (told_old y) i, lo, count_old x) in
+    let jn : j ≤ length ys.values = omega (arith, t.new, ap length cut.news, length-spliced ys.values (told_new y) j, ln, count_new x) in
+    let o = values_cut old_values told_old old_splits old_values-append vs.values xs.values (told_old y) ps at i x s.olds_are t.got t.rank_old cut.olds io lo in
+    let n = values_cut new_values told_new new_splits new_values-append ws.values ys.values (told_new y) ps at j x s.news_are t.got t.rank_new cut.news jn ln in
     let one = one_whole x changed in
     record {
       piece = t.got ∙ ap Some (sym (same_piece y x is o.1 n.1));
@@ -182,8 +200,8 @@ cut_stored cs ds vs ws xs ys room ps at i j y s t changed is colours same old ol
         colours_are = colours ∙ (ap (λ zs. cut_out zs at 1) s.colours_are ∙ colours_cut ps at);
         olds_are = o.0;
         news_are = n.0;
-        old_room = omega (arith, s.old_room, old_same);
-        new_room = omega (arith, s.new_room, new_same);
+        old_room = omega (arith, s.old_room, cut.old_room);
+        new_room = omega (arith, s.new_room, cut.new_room);
         run_room = omega (arith, s.run_room, same);
         within = omega (arith, changed_cut ps at x t.got, s.within);
       };

@@ -95,10 +95,15 @@ pub record Inside : Type 0 where
 abbrev pub Stands : Inside → Type 0
 Stands i = IsWorld i.plan i.order i.graph i.replies i.teller i.taken
 
+-- a section is the next that a writer has left
+pub record IsNext (i : Inside) (w section : ℕ) : Type 0 where
+  pub there : w < length i.plan.writers
+  pub section_is : section ≡ taken_by w i.order
+  pub left : section < length (sections_of i.plan w)
+
 -- a section of a writer was taken, and written down
 pub world_more : (i : Inside) (new : Kept) (mine : List Reply) (teller : TellerModel) (w section : ℕ)
-    → Stands i → w < length i.plan.writers → section ≡ taken_by w i.order
-    → section < length (sections_of i.plan w)
+    → Stands i → IsNext i w section
     → new.limit ≡ i.graph.limit
     → state_of new ≡ state_after i.graph.limit (state_of i.graph) (commands_of i.plan w section)
     → mine ≡ replies_to i.graph.limit (state_of i.graph) (commands_of i.plan w section)
@@ -106,7 +111,10 @@ pub world_more : (i : Inside) (new : Kept) (mine : List Reply) (teller : TellerM
     → teller.told ≡ i.teller.told
     ++ tellings i.plan (length i.order) (section_deltas i.graph.limit (state_of i.graph) (commands_of i.plan w section))
     → IsWorld i.plan (i.order ++ Writer w ∷ []) new (i.replies ++ mine ∷ []) teller (slice_set i.taken w (section + 1))
-world_more i new mine teller w section world there section_is left limit state_is mine_is plan_is told_is =
+world_more i new mine teller w section world next limit state_is mine_is plan_is told_is =
+    let there : w < length i.plan.writers = next.there in
+    let section_is : section ≡ taken_by w i.order = next.section_is in
+    let left : section < length (sections_of i.plan w) = next.left in
     let p : Plan = i.plan in
     let order : List Actor = i.order in
     record {

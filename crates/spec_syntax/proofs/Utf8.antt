@@ -102,8 +102,19 @@ three_utf8 b x y h g k l m n least scalar =
     let i : 128 + (y - 128) ≡ y = omega arith in
     encoded (of_three b x y) (b ∷ x ∷ y ∷ []) (three (b - 224) (x - 128) (y - 128) (omega arith) (omega arith) (omega arith) least ∙ cc) scalar
 
-four_utf8 : (b x y z : ℕ) → 240 ≤ b → b < 245 → 128 ≤ x → x ≤ 191 → 128 ≤ y → y ≤ 191 → 128 ≤ z → z ≤ 191 → 65536 ≤ of_four b x y z → of_four b x y z < 1114112 → IsUtf8 (b ∷ x ∷ y ∷ z ∷ [])
-four_utf8 b x y z h g k l m n o p least most =
+-- a byte after the first of a character
+record Continues (x : ℕ) : Type 0 where
+  least : 128 ≤ x
+  most : x ≤ 191
+
+four_utf8 : (b x y z : ℕ) → 240 ≤ b → b < 245 → Continues x → Continues y → Continues z → 65536 ≤ of_four b x y z → of_four b x y z < 1114112 → IsUtf8 (b ∷ x ∷ y ∷ z ∷ [])
+four_utf8 b x y z h g k l m least most =
+    let x_least : 128 ≤ x = k.least in
+    let x_most : x ≤ 191 = k.most in
+    let y_least : 128 ≤ y = l.least in
+    let y_most : y ≤ 191 = l.most in
+    let z_least : 128 ≤ z = m.least in
+    let z_most : z ≤ 191 = m.most in
     let e : 240 + (b - 240) ≡ b = omega arith in
     let f : 128 + (x - 128) ≡ x = omega arith in
     let i : 128 + (y - 128) ≡ y = omega arith in
@@ -128,7 +139,7 @@ three_after b range (x ∷ []) h g k l bounds w = absurd w.2
 three_after b range (x ∷ y ∷ []) h g k l bounds w = absurd w.2.2
 three_after b range (x ∷ y ∷ z ∷ []) h g k l bounds w =
     let c = bounds x y z w.0 w.1 w.2.0 w.2.1 w.2.2.0 w.2.2.1 in
-    four_utf8 b x y z h g (omega (arith, w.0)) (omega (arith, w.1)) w.2.0 w.2.1 w.2.2.0 w.2.2.1 c.0 c.1
+    four_utf8 b x y z h g (record { least = omega (arith, w.0); most = omega (arith, w.1) }) (record { least = w.2.0; most = w.2.1 }) (record { least = w.2.2.0; most = w.2.2.1 }) c.0 c.1
 three_after b range (x ∷ y ∷ z ∷ u ∷ ys) h g k l bounds w = let e = w.2.2.2 in cc
 
 -- a choice between two lists of ranges

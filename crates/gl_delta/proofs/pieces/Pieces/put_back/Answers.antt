@@ -83,7 +83,7 @@ invariant_of-self c =
     let x = piece_of c.args.change in
     let h = held_is i.colours i.olds i.news i.room c.args.self.now c.self.invariant c.self.view_is in
     let spare : changed_len ps < i.room = omega (arith, c.requires.spare, h.room_is) in
-    let s = put_stored i.colours c.insert_reserved.new.self i.olds i.news c.put_values.new.olds c.put_values.new.news i.room ps c.args.position c.rank-old.result c.rank-new.result c.colour.result x h.stored c.colour.ensures.value c.rank-old.ensures c.rank-new.ensures spare c.insert_reserved.ensures.colours c.insert_reserved.ensures.room c.put_values.ensures.olds c.put_values.ensures.room_old c.put_values.ensures.news c.put_values.ensures.room_new in
+    let s = put_stored i.colours c.insert_reserved.new.self i.olds i.news c.put_values.new.olds c.put_values.new.news i.room ps c.args.position c.rank-old.result c.rank-new.result c.colour.result x h.stored c.colour.ensures.value c.rank-old.ensures c.rank-new.ensures spare c.insert_reserved.ensures.colours c.insert_reserved.ensures.room (record { olds = c.put_values.ensures.olds; old_room = c.put_values.ensures.room_old; news = c.put_values.ensures.news; new_room = c.put_values.ensures.room_new }) in
     stored_again c.insert_reserved.new.self c.put_values.new.olds c.put_values.new.news i.room (insert ps c.args.position x) s
 
 pub returns-clause-pieces : goal.returns-clause-pieces
@@ -93,5 +93,5 @@ returns-clause-pieces c =
     let x = piece_of c.args.change in
     let h = held_is i.colours i.olds i.news i.room c.args.self.now c.self.invariant c.self.view_is in
     let spare : changed_len ps < i.room = omega (arith, c.requires.spare, h.room_is) in
-    let s = put_stored i.colours c.insert_reserved.new.self i.olds i.news c.put_values.new.olds c.put_values.new.news i.room ps c.args.position c.rank-old.result c.rank-new.result c.colour.result x h.stored c.colour.ensures.value c.rank-old.ensures c.rank-new.ensures spare c.insert_reserved.ensures.colours c.insert_reserved.ensures.room c.put_values.ensures.olds c.put_values.ensures.room_old c.put_values.ensures.news c.put_values.ensures.room_new in
+    let s = put_stored i.colours c.insert_reserved.new.self i.olds i.news c.put_values.new.olds c.put_values.new.news i.room ps c.args.position c.rank-old.result c.rank-new.result c.colour.result x h.stored c.colour.ensures.value c.rank-old.ensures c.rank-new.ensures spare c.insert_reserved.ensures.colours c.insert_reserved.ensures.room (record { olds = c.put_values.ensures.olds; old_room = c.put_values.ensures.room_old; news = c.put_values.ensures.news; new_room = c.put_values.ensures.room_new }) in
     stored_is c.insert_reserved.new.self c.put_values.new.olds c.put_values.new.news i.room (insert ps c.args.position x) s

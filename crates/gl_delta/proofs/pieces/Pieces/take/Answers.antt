@@ -27,7 +27,7 @@ invariant_of-self c =
     let t = there_is i.colours i.olds i.news i.room ps c.args.position c.rank-old.result c.rank-new.result h.stored c.requires.within c.rank-old.ensures c.rank-new.ensures in
     let kind_is : c.of_colour-kind.result ≡ kind_of t.piece = c.of_colour-kind.ensures ∙ (ap kind_by c.colour.ensures ∙ t.kind_is) in
     let changed = there_changed ps c.args.position t.piece t.got c.requires.changed in
-    let s = cut_stored i.colours c.remove.new.self i.olds i.news c.take_values.new.olds c.take_values.new.news i.room ps c.args.position c.rank-old.result c.rank-new.result (piece_of c.take_values.result) h.stored t changed (c.take_values.ensures.kind ∙ kind_is) c.remove.ensures.colours c.remove.ensures.room c.take_values.ensures.olds c.take_values.ensures.room_old c.take_values.ensures.news c.take_values.ensures.room_new in
+    let s = cut_stored i.colours c.remove.new.self i.olds i.news c.take_values.new.olds c.take_values.new.news i.room ps c.args.position c.rank-old.result c.rank-new.result (piece_of c.take_values.result) h.stored t changed (c.take_values.ensures.kind ∙ kind_is) c.remove.ensures.colours c.remove.ensures.room (record { olds = c.take_values.ensures.olds; old_room = sym c.take_values.ensures.room_old; news = c.take_values.ensures.news; new_room = sym c.take_values.ensures.room_new }) in
     stored_again c.remove.new.self c.take_values.new.olds c.take_values.new.news i.room (remove ps c.args.position) s.stored
 
 pub returns-clause-taken : goal.returns-clause-taken
@@ -38,7 +38,7 @@ returns-clause-taken c =
     let t = there_is i.colours i.olds i.news i.room ps c.args.position c.rank-old.result c.rank-new.result h.stored c.requires.within c.rank-old.ensures c.rank-new.ensures in
     let kind_is : c.of_colour-kind.result ≡ kind_of t.piece = c.of_colour-kind.ensures ∙ (ap kind_by c.colour.ensures ∙ t.kind_is) in
     let changed = there_changed ps c.args.position t.piece t.got c.requires.changed in
-    let s = cut_stored i.colours c.remove.new.self i.olds i.news c.take_values.new.olds c.take_values.new.news i.room ps c.args.position c.rank-old.result c.rank-new.result (piece_of c.take_values.result) h.stored t changed (c.take_values.ensures.kind ∙ kind_is) c.remove.ensures.colours c.remove.ensures.room c.take_values.ensures.olds c.take_values.ensures.room_old c.take_values.ensures.news c.take_values.ensures.room_new in
+    let s = cut_stored i.colours c.remove.new.self i.olds i.news c.take_values.new.olds c.take_values.new.news i.room ps c.args.position c.rank-old.result c.rank-new.result (piece_of c.take_values.result) h.stored t changed (c.take_values.ensures.kind ∙ kind_is) c.remove.ensures.colours c.remove.ensures.room (record { olds = c.take_values.ensures.olds; old_room = sym c.take_values.ensures.room_old; news = c.take_values.ensures.news; new_room = sym c.take_values.ensures.room_new }) in
     s.piece
 
 pub returns-clause-rest : goal.returns-clause-rest
@@ -49,7 +49,7 @@ returns-clause-rest c =
     let t = there_is i.colours i.olds i.news i.room ps c.args.position c.rank-old.result c.rank-new.result h.stored c.requires.within c.rank-old.ensures c.rank-new.ensures in
     let kind_is : c.of_colour-kind.result ≡ kind_of t.piece = c.of_colour-kind.ensures ∙ (ap kind_by c.colour.ensures ∙ t.kind_is) in
     let changed = there_changed ps c.args.position t.piece t.got c.requires.changed in
-    let s = cut_stored i.colours c.remove.new.self i.olds i.news c.take_values.new.olds c.take_values.new.news i.room ps c.args.position c.rank-old.result c.rank-new.result (piece_of c.take_values.result) h.stored t changed (c.take_values.ensures.kind ∙ kind_is) c.remove.ensures.colours c.remove.ensures.room c.take_values.ensures.olds c.take_values.ensures.room_old c.take_values.ensures.news c.take_values.ensures.room_new in
+    let s = cut_stored i.colours c.remove.new.self i.olds i.news c.take_values.new.olds c.take_values.new.news i.room ps c.args.position c.rank-old.result c.rank-new.result (piece_of c.take_values.result) h.stored t changed (c.take_values.ensures.kind ∙ kind_is) c.remove.ensures.colours c.remove.ensures.room (record { olds = c.take_values.ensures.olds; old_room = sym c.take_values.ensures.room_old; news = c.take_values.ensures.news; new_room = sym c.take_values.ensures.room_new }) in
     stored_is c.remove.new.self c.take_values.new.olds c.take_values.new.news i.room (remove ps c.args.position) s.stored
 
 pub take_values-requires-clause-old : goal.take_values-requires-clause-old
@@ -82,5 +82,5 @@ returns-clause-spare c =
     let t = there_is i.colours i.olds i.news i.room ps c.args.position c.rank-old.result c.rank-new.result h.stored c.requires.within c.rank-old.ensures c.rank-new.ensures in
     let kind_is : c.of_colour-kind.result ≡ kind_of t.piece = c.of_colour-kind.ensures ∙ (ap kind_by c.colour.ensures ∙ t.kind_is) in
     let changed = there_changed ps c.args.position t.piece t.got c.requires.changed in
-    let s = cut_stored i.colours c.remove.new.self i.olds i.news c.take_values.new.olds c.take_values.new.news i.room ps c.args.position c.rank-old.result c.rank-new.result (piece_of c.take_values.result) h.stored t changed (c.take_values.ensures.kind ∙ kind_is) c.remove.ensures.colours c.remove.ensures.room c.take_values.ensures.olds c.take_values.ensures.room_old c.take_values.ensures.news c.take_values.ensures.room_new in
+    let s = cut_stored i.colours c.remove.new.self i.olds i.news c.take_values.new.olds c.take_values.new.news i.room ps c.args.position c.rank-old.result c.rank-new.result (piece_of c.take_values.result) h.stored t changed (c.take_values.ensures.kind ∙ kind_is) c.remove.ensures.colours c.remove.ensures.room (record { olds = c.take_values.ensures.olds; old_room = sym c.take_values.ensures.room_old; news = c.take_values.ensures.news; new_room = sym c.take_values.ensures.room_new }) in
     omega (arith, ap changed_len (stored_is c.remove.new.self c.take_values.new.olds c.take_values.new.news i.room (remove ps c.args.position) s.stored), s.fewer)

@@ -104,8 +104,8 @@ invariant_of-self-in-Ok-1 g c =
     ∙ ap (λ m. w.teller.told ++ tellings w.plan m all) place
     ∙ ap (λ ds. w.teller.told ++ tellings w.plan (length order) (section_deltas k.limit (state_of k) ds)) is in
     rw (c.add.ensures.order, c.add.ensures.replies, c.reserve-2.ensures.order, c.reserve-2.ensures.replies)
-    (world_more i c.take_all.new.graph t.replies c.tell.new.self c.args.writer section world there section_is
-    (omega (arith, c.if-section-sections.false))
+    (world_more i c.take_all.new.graph t.replies c.tell.new.self c.args.writer section world
+    (record { there = there; section_is = section_is; left = omega (arith, c.if-section-sections.false) })
     e.limit (e.state ∙ ap (state_after k.limit (state_of k)) is)
     (e.replies ∙ ap (replies_to k.limit (state_of k)) is) (c.tell.ensures.plan ∙ c.reserve.ensures.plan) told)
 
