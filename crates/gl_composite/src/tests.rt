@@ -3,9 +3,9 @@ ghost use Rattle.gl_joined.specs.Piece.{old_len};
 ghost use Rattle.gl_joined.specs.Leads.{IsDelta};
 ghost use Rattle.gl_composite.specs.Told.{AreOf};
 
-use crate::{Composite, DetachFault};
+use crate::Composite;
 use gl_delta::{Delta, Deltas, KernelFault};
-use gl_testing::{Change, Row, Told, change_of, numbers, tells};
+use gl_testing::{Change, Row, Told, change_of, tells};
 use gl_value::Values;
 use std::alloc::{AllocError, Global};
 use std::test::Fail;
@@ -118,21 +118,5 @@ fn changes_of_both(rt: HostRuntime) -> Result<(), Fail> {
         let right = is_right(rt.alloc(), limit, &first, &second, wanted)?;
         assert!(rt; right);
     }
-    Ok(())
-}
-
-// The first of two members is detached; then there is none at index 1.
-#[test]
-fn detaches(rt: HostRuntime) -> Result<(), Fail> {
-    let first = numbers(rt.alloc(), &[1, 2])?;
-    let second = numbers(rt.alloc(), &[3])?;
-    let mut composite = of_both(rt.alloc(), 3, &first, &second)?;
-    assert!(rt; composite.member(1) == Some(1) && composite.locate(2) == Some((1, 0)));
-    let (out, undo) = composite.detach(0, &first)?;
-    assert!(rt; tells(&out, &[Told::Delete(1), Told::Delete(2), Told::Keep(1)]));
-    let refused = composite.detach(1, &second);
-    assert!(rt; matches!(&refused, Err(DetachFault::OutOfRange { index: 1, len: 1 })));
-    composite.retreat(undo);
-    assert!(rt; composite.members() == 2 && composite.locate(3).is_none());
     Ok(())
 }

@@ -16,8 +16,6 @@ mod part;
 mod pieces;
 mod plain;
 mod ranked;
-#[cfg(test)]
-mod tests;
 mod turn;
 mod values;
 

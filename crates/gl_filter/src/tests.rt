@@ -1,11 +1,10 @@
 ghost use Rattle.std.specs.Prelude.{◌≡◌, ◌<◌};
 ghost use Rattle.spec_views.specs.Leads.{IsDelta};
-ghost use Rattle.spec_views.specs.Kind.{Says};
 
 use crate::Filter;
 use gl_delta::Find;
-use gl_lang::{EditKind, Matcher, Path, Test};
-use gl_testing::{Change, Row, Told, change_of, is_number, numbers, tells};
+use gl_lang::{Matcher, Path, Test};
+use gl_testing::{Change, Row, Told, change_of, is_number, tells};
 use gl_value::{Steps, Value, Values};
 use std::alloc::Global;
 use std::marker::Brand;
@@ -35,10 +34,6 @@ fn shows(filter: &Filter, list: &Values, shown: &[i64]) -> bool {
 
 fn above_three(alloc: Global) -> Matcher {
     Matcher::is(Path::new(alloc), Test::Gt, Value::num(3))
-}
-
-fn two(alloc: Global) -> Matcher {
-    Matcher::is(Path::new(alloc), Test::Eq, Value::num(2))
 }
 
 // A filter of the numbers above 3 follows the delta, and goes back.
@@ -156,112 +151,6 @@ fn deltas_through_a_filter(rt: HostRuntime) -> Result<(), Fail> {
     for (rows, before, told, after) in FOLLOWED {
         let change = change_of(rt.alloc(), rows)?;
         followed(&rt, rt.alloc(), &change, before, told, after)?;
-    }
-    Ok(())
-}
-
-// What a matcher is changed to, and what is known of the change.
-#[derive(Clone, Copy)]
-enum Turn {
-    AboveToAll,
-    AboveToNothing,
-    AllToAbove,
-    NothingToAbove,
-    AboveToAllAsked,
-    AboveToNothingAsked,
-    AboveToTwo,
-}
-
-fn matchers(alloc: Global, turn: Turn) -> (Matcher, Matcher, EditKind)
-    ensures { Says result.2 result.0 result.1 }
-{
-    let above = above_three(alloc);
-    match turn {
-        Turn::AboveToAll => (above, Matcher::all(), EditKind::All),
-        Turn::AboveToNothing => (above, Matcher::nothing(), EditKind::Nothing),
-        Turn::AllToAbove => (Matcher::all(), above, EditKind::Constrained),
-        Turn::NothingToAbove => (Matcher::nothing(), above, EditKind::Relaxed),
-        Turn::AboveToAllAsked => (above, Matcher::all(), EditKind::Relaxed),
-        Turn::AboveToNothingAsked => (above, Matcher::nothing(), EditKind::Constrained),
-        Turn::AboveToTwo => (above, two(alloc), EditKind::Changed),
-    }
-}
-
-// The filter of [5, 2, 9, 2] takes another matcher, and goes back.
-fn changes<L: Ledger>(
-    rt: &impl Abort,
-    alloc: Global,
-    turn: Turn,
-    told: &[Told],
-    after: &[i64],
-    blank: Blank,
-) -> Result<(), Fail>
-    requires name { blank.name ≡ L.name }
-    requires parts { blank.parts ≡ L.parts }
-    requires some { 0 < blank.parts }
-{
-    let mut steps: Steps<L> = Steps::new(blank);
-    let list = numbers(alloc, &[5, 2, 9, 2])?;
-    assert!(rt; list.len() < 100);
-    let (old, new, kind) = matchers(alloc, turn);
-    let mut filter = Filter::make(alloc, old, &list, &mut steps)?;
-    let before = filter.len();
-    let (out, undo) = filter.change(new, kind, &list, &mut steps)?;
-    assert!(rt; tells(&out, told) && shows(&filter, &list, after));
-    filter.retreat(undo);
-    assert!(rt; filter.len() == before);
-    Ok(())
-}
-
-fn changed(
-    rt: &impl Abort,
-    turn: Turn,
-    told: &[Told],
-    after: &[i64],
-    alloc: Global,
-) -> Result<(), Fail> {
-    changes::<Brand>(rt, alloc, turn, told, after, Blank::new(1))
-}
-
-#[test]
-fn other_matchers(rt: HostRuntime) -> Result<(), Fail> {
-    let inserted = [
-        Told::Keep(1),
-        Told::Insert(2),
-        Told::Keep(1),
-        Told::Insert(2),
-    ];
-    let hidden = [
-        Told::Keep(1),
-        Told::Delete(2),
-        Told::Keep(1),
-        Told::Delete(2),
-    ];
-    let deleted = [Told::Delete(5), Told::Delete(9)];
-    let exchanged = [
-        Told::Delete(5),
-        Told::Delete(9),
-        Told::Insert(2),
-        Told::Insert(2),
-    ];
-    for (turn, told, after) in [
-        (
-            Turn::AboveToAll,
-            inserted.as_slice(),
-            [5i64, 2, 9, 2].as_slice(),
-        ),
-        (Turn::AboveToAllAsked, &inserted, &[5, 2, 9, 2]),
-        (Turn::AboveToNothing, &deleted, &[]),
-        (Turn::AboveToNothingAsked, &deleted, &[]),
-        (Turn::AllToAbove, &hidden, &[5, 9]),
-        (
-            Turn::NothingToAbove,
-            &[Told::Insert(5), Told::Insert(9)],
-            &[5, 9],
-        ),
-        (Turn::AboveToTwo, &exchanged, &[2, 2]),
-    ] {
-        changed(&rt, turn, told, after, rt.alloc())?;
     }
     Ok(())
 }

@@ -4,8 +4,8 @@ ghost use Rattle.spec_views.specs.Leads.{IsDelta};
 use crate::Function;
 use gl_delta::Find;
 use gl_lang::{Func, Path};
-use gl_testing::{Change, Row, Told, change_of, is_number, numbers, tells};
-use gl_value::{Steps, Values};
+use gl_testing::{Change, Row, Told, change_of, is_number, tells};
+use gl_value::Steps;
 use std::alloc::{AllocError, Global};
 use std::marker::Brand;
 use std::sync::ledger::{Blank, Ledger};
@@ -104,56 +104,6 @@ fn changes_of_the_list(rt: HostRuntime) -> Result<(), Fail> {
         let change = change_of(rt.alloc(), rows)?;
         assert!(rt; change.before.len() < 100);
         let right = follows::<Brand>(rt.alloc(), &change, told, (before, after), Blank::new(1))?;
-        assert!(rt; right);
-    }
-    Ok(())
-}
-
-fn takes_function<L: Ledger>(
-    alloc: Global,
-    list: &Values,
-    told: &[Told],
-    shown: (&[i64], &[i64]),
-    blank: Blank,
-) -> Result<bool, AllocError>
-    requires few { length list.now ≤ 2147483647 }
-    requires name { blank.name ≡ L.name }
-    requires parts { blank.parts ≡ L.parts }
-    requires some { 0 < blank.parts }
-{
-    let mut steps: Steps<L> = Steps::new(blank);
-    let (ten, hundred) = (plus(alloc, 10)?, plus(alloc, 100)?);
-    let mut results = Function::make(alloc, ten.copy(alloc)?, list, &mut steps)?;
-    let opened = shows(&results, shown.0);
-    let (out, undo) = results.change(hundred.copy(alloc)?, list)?;
-    let changed = tells(&out, told) && shows(&results, shown.1) && results.func().same(&hundred);
-    results.retreat(undo);
-    Ok(opened && changed && shows(&results, shown.0) && results.func().same(&ten))
-}
-
-/// A list, what is told where the function adds 10 and then 100, and what is shown before and after that.
-const EXCHANGED: [(&[i64], &[Told], &[i64], &[i64]); 2] = [
-    (
-        &[1, 2],
-        &[Told::Update(11, 101), Told::Update(12, 102)],
-        &[11, 12],
-        &[101, 102],
-    ),
-    (&[], &[], &[], &[]),
-];
-
-#[test]
-fn changes_of_the_function(rt: HostRuntime) -> Result<(), Fail> {
-    for (list, told, before, after) in EXCHANGED {
-        let list = numbers(rt.alloc(), list)?;
-        assert!(rt; list.len() < 100);
-        let right = takes_function::<Brand>(
-            rt.alloc(),
-            &list,
-            told,
-            (before, after),
-            Blank::new(1),
-        )?;
         assert!(rt; right);
     }
     Ok(())

@@ -17,8 +17,6 @@ mod source;
 mod spot;
 mod spread;
 mod start;
-#[cfg(test)]
-mod tests;
 
 pub use derived::{Derived, DerivedUndo};
 pub use fault::BuildFault;

@@ -7,8 +7,6 @@ pub mod kids;
 pub mod matcher;
 pub mod order;
 pub mod path;
-#[cfg(test)]
-mod tests;
 
 pub use func::{Func, FuncShape, Funcs};
 pub use gl_value::Memory;

@@ -15,8 +15,6 @@ mod named;
 mod one_name;
 mod path;
 mod table;
-#[cfg(test)]
-mod tests;
 mod two_names;
 
 pub use line::read_line;

@@ -13,8 +13,6 @@ mod making;
 mod part;
 mod plan;
 mod tables;
-#[cfg(test)]
-mod tests;
 
 pub use fault::{Names, PlanFault};
 pub use gl_lang::{Bounds, Func, Matcher, Path, Test};

@@ -15,8 +15,6 @@ mod needs;
 mod passed;
 mod placing;
 mod tables;
-#[cfg(test)]
-mod tests;
 
 pub use gl_lines::{Line, Lines, Misplaced, Named, NamedList, NumberedLine, PlanKind};
 pub use judging::first_fault;

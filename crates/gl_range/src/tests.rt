@@ -4,7 +4,7 @@ ghost use Rattle.spec_views.specs.Leads.{IsDelta};
 use crate::RangeKernel;
 use gl_delta::Find;
 use gl_lang::Bounds;
-use gl_testing::{Change, Row, Told, change_of, is_number, numbers, tells};
+use gl_testing::{Change, Row, Told, change_of, is_number, tells};
 use gl_value::{Shelf, Steps, Values};
 use std::alloc::{AllocError, Global};
 use std::marker::Brand;
@@ -145,71 +145,6 @@ fn changes_of_the_list(rt: HostRuntime) -> Result<(), Fail> {
             rt.alloc(),
             bounds,
             &change,
-            told,
-            (before, after),
-            Blank::new(1),
-        )?;
-        assert!(rt; right);
-    }
-    Ok(())
-}
-
-fn takes_bounds<L: Ledger>(
-    alloc: Global,
-    bounds: (Bounds, Bounds),
-    list: &Values,
-    told: &[Told],
-    shown: (&[i64], &[i64]),
-    blank: Blank,
-) -> Result<bool, AllocError>
-    requires few { length list.now ≤ 2147483647 }
-    requires name { blank.name ≡ L.name }
-    requires parts { blank.parts ≡ L.parts }
-    requires some { 0 < blank.parts }
-{
-    let mut steps: Steps<L> = Steps::new(blank);
-    let mut range = RangeKernel::make(alloc, bounds.0, list, &mut steps)?;
-    let opened = shows(&range, list, shown.0);
-    let (out, undo) = range.change(bounds.1, list)?;
-    let changed = tells(&out, told) && shows(&range, list, shown.1) && range.bounds() == bounds.1;
-    range.retreat(undo);
-    Ok(opened && changed && shows(&range, list, shown.0) && range.bounds() == bounds.0)
-}
-
-/// Two bounds, a list, what is told of the change from the one to the other, and what both show.
-const EXCHANGED: [((Bounds, Bounds), &[i64], &[Told], &[i64], &[i64]); 3] = [
-    (
-        (Bounds::Tail(2, 0), Bounds::Head(0, 1)),
-        &[1, 2, 4, 5],
-        &[Told::Delete(4), Told::Delete(5), Told::Insert(1)],
-        &[4, 5],
-        &[1],
-    ),
-    (
-        (Bounds::Head(1, 3), Bounds::Head(2, 4)),
-        &[1, 2, 3, 4],
-        &[Told::Delete(2), Told::Keep(1), Told::Insert(4)],
-        &[2, 3],
-        &[3, 4],
-    ),
-    (
-        (Bounds::Head(0, 9), Bounds::Middle(0, 0)),
-        &[],
-        &[],
-        &[],
-        &[],
-    ),
-];
-
-#[test]
-fn changes_of_the_bounds(rt: HostRuntime) -> Result<(), Fail> {
-    for (bounds, list, told, before, after) in EXCHANGED {
-        let list = numbers(rt.alloc(), list)?;
-        assert!(rt; list.len() < 100);
-        let right = takes_bounds::<Brand>(
-            rt.alloc(),
-            bounds,
-            &list,
             told,
             (before, after),
             Blank::new(1),

@@ -1,3 +1,5 @@
+mod lines;
+mod meanings;
 mod plan_reader;
 mod plan_writer;
 mod records;

@@ -6,7 +6,7 @@ use gl_plan::{Names, Plan, PlanFault};
 use std::process::Abort;
 
 /// A text, and the line, the column and the kind of its first fault.
-const FAULTS: [(&[u8], u64, u64, PlanKind); 19] = [
+const FAULTS: [(&[u8], u64, u64, PlanKind); 21] = [
     (b"", 1, 1, PlanKind::Header),
     (b"glaze 2\n", 1, 1, PlanKind::Header),
     (b"glaze 1\nsource s\xff", 2, 9, PlanKind::Utf8),
@@ -70,6 +70,19 @@ const FAULTS: [(&[u8], u64, u64, PlanKind); 19] = [
         6,
         10,
         PlanKind::Member,
+    ),
+    (
+        b"glaze 1\nsource s\ntransaction t s\ntransaction u s",
+        4,
+        15,
+        PlanKind::Second,
+    ),
+    // names may be used before their line, and a composite reaches a proxy through another
+    (
+        b"glaze 1\nsource s\ncomposite c s t\ncomposite t s p\nproxy p s",
+        3,
+        1,
+        PlanKind::OverProxy,
     ),
 ];
 
@@ -150,6 +163,11 @@ fn plan(rt: &(impl Abort + AllocGlobal), text: &[u8]) -> Plan {
 #[test]
 fn reads_one_plan_of_two_texts(rt: HostRuntime) {
     for (text, other) in &ALIKE {
-        assert!(rt; plan(&rt, text).same(&plan(&rt, other)));
+        let made = plan(&rt, text);
+        assert!(rt; made.same(&plan(&rt, other)));
+        match made.copy(rt.alloc()) {
+            Ok(copy) => assert!(rt; made.same(&copy)),
+            Err(_) => panic!(rt; "out of memory"),
+        }
     }
 }
