@@ -1,7 +1,11 @@
 //! The cells of a delta, one after another.
 
+ghost use Rattle.std.specs.Prelude.{◌≡◌, ◌≤◌};
 ghost use Rattle.std.specs.Iterator.{YieldsFirstBy, item_count};
+ghost use Rattle.spec_lists.specs.Cells.{cells_of};
+ghost use Rattle.spec_lists.specs.Changes.{after_changes, changed_len};
 ghost use Rattle.gl_delta.specs.Cells.{cell_ref, cells_rest};
+ghost use Rattle.gl_delta.specs.Pieces.{pieces};
 
 use crate::cell::CellRef;
 use crate::pieces::Pieces;
@@ -35,5 +39,25 @@ impl<'a> Iterator for Cells<'a> {
         }
         self.at += 1;
         Some(self.store.cell(found))
+    }
+}
+
+impl Pieces {
+    /// The cells after so many changes.
+    pub(crate) fn cells_from(&self, changes: usize) -> Cells<'_>
+        requires { changes ≤ changed_len (pieces self.now) }
+        ensures { cells_rest result ≡ cells_of (after_changes changes (pieces self.now)) }
+    {
+        Cells {
+            store: self,
+            at: self.later(changes),
+        }
+    }
+
+    /// The cells from left to right.
+    pub(crate) fn cells(&self) -> Cells<'_>
+        ensures { cells_rest result ≡ cells_of (pieces self.now) }
+    {
+        Cells { store: self, at: 0 }
     }
 }

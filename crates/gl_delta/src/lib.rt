@@ -10,6 +10,7 @@ mod deltas;
 mod edits;
 mod find;
 mod inverse;
+mod kinds;
 pub mod laws;
 mod mark;
 mod part;

@@ -9,13 +9,12 @@ ghost use Rattle.spec_lists.specs.Changes.{after_changes, changed_len};
 ghost use Rattle.spec_lists.specs.Sides.{olds};
 ghost use Rattle.gl_delta.specs.Old.{IsOldAt};
 ghost use Rattle.gl_delta.specs.Plain.{kept_len, IsKeptAt};
-ghost use Rattle.gl_delta.specs.Cells.{cells_rest, cell_ref};
+ghost use Rattle.gl_delta.specs.Cells.{cell_ref};
 ghost use Rattle.gl_delta.specs.Marks.{piece_of, IsSelected, side_len, kind_of};
 ghost use Rattle.gl_delta.specs.declared.mark.TheConstants.{MOST};
-ghost use Rattle.gl_delta.specs.Pieces.{pieces, room, is_kept_piece, is_inserted_piece, is_deleted_piece, brought_forward, AreAfter, IsNextChanged};
+ghost use Rattle.gl_delta.specs.Pieces.{pieces, room, is_kept_piece, brought_forward, AreAfter, IsNextChanged};
 
 use crate::cell::{CellRef, Old};
-use crate::cells::Cells;
 use crate::mark::{CHANGED, Changed, DELETED, KEPT, KEPT_ALONE, Kind, Side, WITH_NEW, WITH_OLD};
 use crate::ranked::Ranked;
 use crate::turn::turn;
@@ -118,45 +117,6 @@ impl Pieces {
             Some(Kind::of_colour(self.colours.colour(position)))
         } else {
             None
-        }
-    }
-
-    /// Whether a kept piece stands at a place.
-    pub(crate) fn is_kept(&self, position: usize) -> bool
-        ensures { result ≡ is_kept_piece (slice_get (pieces self.now) position) }
-    {
-        match self.kind(position) {
-            Some(Kind::Kept) => true,
-            Some(Kind::Updated) => false,
-            Some(Kind::Deleted) => false,
-            Some(Kind::Inserted) => false,
-            None => false,
-        }
-    }
-
-    /// Whether an inserted piece stands at a place.
-    pub(crate) fn is_inserted(&self, position: usize) -> bool
-        ensures { result ≡ is_inserted_piece (slice_get (pieces self.now) position) }
-    {
-        match self.kind(position) {
-            Some(Kind::Kept) => false,
-            Some(Kind::Updated) => false,
-            Some(Kind::Deleted) => false,
-            Some(Kind::Inserted) => true,
-            None => false,
-        }
-    }
-
-    /// Whether a deleted piece stands at a place.
-    pub(crate) fn is_deleted(&self, position: usize) -> bool
-        ensures { result ≡ is_deleted_piece (slice_get (pieces self.now) position) }
-    {
-        match self.kind(position) {
-            Some(Kind::Kept) => false,
-            Some(Kind::Updated) => false,
-            Some(Kind::Deleted) => true,
-            Some(Kind::Inserted) => false,
-            None => false,
         }
     }
 
@@ -399,19 +359,8 @@ impl Pieces {
         self.colours.len()
     }
 
-    /// The cells after so many changes.
-    pub(crate) fn cells_from(&self, changes: usize) -> Cells<'_>
-        requires { changes ≤ changed_len (pieces self.now) }
-        ensures { cells_rest result ≡ cells_of (after_changes changes (pieces self.now)) }
-    {
-        Cells {
-            store: self,
-            at: self.later(changes),
-        }
-    }
-
-    // The place after so many changed pieces.
-    fn later(&self, changes: usize) -> usize
+    /// The place after so many changed pieces.
+    pub(crate) fn later(&self, changes: usize) -> usize
         requires { changes ≤ changed_len (pieces self.now) }
         ensures within { result ≤ length (pieces self.now) }
         ensures rest { drop result (pieces self.now) ≡ after_changes changes (pieces self.now) }
@@ -424,12 +373,5 @@ impl Pieces {
             Some(last) => last + 1,
             None => unreachable!(),
         }
-    }
-
-    /// The cells from left to right.
-    pub(crate) fn cells(&self) -> Cells<'_>
-        ensures { cells_rest result ≡ cells_of (pieces self.now) }
-    {
-        Cells { store: self, at: 0 }
     }
 }
