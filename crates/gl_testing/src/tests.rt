@@ -3,7 +3,7 @@
 use crate::{Row, Told, change_of, is_number, tells};
 use gl_delta::{CellRef, Delta, Deltas, MOST, Old};
 use gl_value::{Shelf, Value};
-use std::alloc::AllocError;
+use std::alloc::{AllocError, Global};
 use std::process::Abort;
 use std::test::Fail;
 
@@ -163,16 +163,32 @@ const COMPOSED: [(&[Row], &[Told], &[Row], &[Told]); 5] = [
     ),
 ];
 
+fn delta_of(alloc: Global, rows: &[Row]) -> Result<Delta, AllocError> {
+    let change = change_of(alloc, rows)?;
+    change.delta.copy()
+}
+
+// Whether this is the inverse of the delta.
+fn is_inverse(delta: &Delta, back: &[Told]) -> Result<bool, AllocError> {
+    Ok(tells(&delta.copy()?.inverse(), back))
+}
+
+// Whether a delta and another after it come to this.
+fn compose(mut delta: Delta, more: Delta, both: &[Told]) -> Result<bool, AllocError> {
+    if more.old_len() != delta.new_len() {
+        return Ok(false);
+    }
+    delta.reserve_for(&more)?;
+    delta.absorb(more);
+    Ok(tells(&delta, both))
+}
+
 #[test]
 fn inverses_and_compositions(rt: HostRuntime) -> Result<(), Fail> {
     for (rows, back, more, both) in COMPOSED {
-        let mut delta = change_of(rt.alloc(), rows)?.delta;
-        assert!(rt; tells(&delta.copy()?.inverse(), back));
-        let more = change_of(rt.alloc(), more)?.delta;
-        assert!(rt; more.old_len() == delta.new_len());
-        delta.reserve_for(&more)?;
-        delta.absorb(more);
-        assert!(rt; tells(&delta, both));
+        let delta = delta_of(rt.alloc(), rows)?;
+        assert!(rt; is_inverse(&delta, back)?);
+        assert!(rt; compose(delta, delta_of(rt.alloc(), more)?, both)?);
     }
     Ok(())
 }
@@ -241,7 +257,7 @@ fn many_recorded(rt: HostRuntime) -> Result<(), Fail> {
 fn deltas_by_number(rt: HostRuntime) -> Result<(), Fail> {
     let mut deltas = Deltas::make(rt.alloc(), 2)?;
     assert!(rt; deltas.get(1).is_none());
-    deltas.put(1, change_of(rt.alloc(), &[Row::Keep(3)])?.delta);
+    deltas.put(1, delta_of(rt.alloc(), &[Row::Keep(3)])?);
     assert!(rt; deltas.get(0).is_none());
     assert!(rt; deltas.take(1).is_some_and(|delta| delta.is_identity()));
     assert!(rt; deltas.take(1).is_none());
