@@ -6,8 +6,6 @@ mod children;
 mod collection;
 mod count;
 mod follow;
-#[cfg(test)]
-mod tests;
 
 pub use collection::{Collection, CollectionUndo};
 pub use gl_delta::{KernelFault, Memory};

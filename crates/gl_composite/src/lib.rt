@@ -6,8 +6,6 @@ mod composite;
 mod fault;
 mod follow;
 mod telling;
-#[cfg(test)]
-mod tests;
 
 pub use composite::{Composite, CompositeUndo};
 pub use fault::DetachFault;

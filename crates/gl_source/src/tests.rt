@@ -2,7 +2,7 @@ ghost use Rattle.std.specs.Prelude.{◌≤◌};
 ghost use Rattle.spec_lists.specs.Piece.{new_len};
 ghost use Rattle.spec_lists.specs.Leads.{LeadsFrom};
 
-use crate::{Edit, EditFault, OpenFault, SourceList};
+use crate::{Edit, EditFault, SourceList};
 use gl_delta::Delta;
 use gl_testing::{Told, is_number, numbers, tells};
 use gl_value::{Shelf, Value};
@@ -168,16 +168,4 @@ fn edits(rt: HostRuntime) -> Result<(), Fail> {
         answers(&rt, &mut source, edit(rt.alloc(), step)?, answer)?;
     }
     Ok(())
-}
-
-#[test]
-fn rows_past_the_limit(rt: HostRuntime) -> Result<(), Fail> {
-    let rows = numbers(rt.alloc(), &[5, 9])?;
-    match SourceList::make(rt.alloc(), &rows, 1) {
-        Err(OpenFault::TooLong { len }) => {
-            assert_eq!(rt; len, 2);
-            Ok(())
-        }
-        _ => panic!(rt; "another answer"),
-    }
 }

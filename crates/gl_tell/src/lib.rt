@@ -8,8 +8,6 @@ mod handing;
 mod listeners;
 mod teller;
 mod telling;
-#[cfg(test)]
-mod tests;
 
 pub use desk::{Desk, WriteBack};
 pub use gl_event::Event;
