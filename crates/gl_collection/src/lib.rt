@@ -8,4 +8,4 @@ mod count;
 mod follow;
 
 pub use collection::{Collection, CollectionUndo};
-pub use gl_delta::{KernelFault, Memory};
+pub use gl_delta::KernelFault;

@@ -9,4 +9,4 @@ mod telling;
 
 pub use composite::{Composite, CompositeUndo};
 pub use fault::DetachFault;
-pub use gl_delta::{KernelFault, Memory};
+pub use gl_delta::KernelFault;

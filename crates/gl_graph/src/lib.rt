@@ -20,7 +20,6 @@ mod start;
 
 pub use derived::{Derived, DerivedUndo};
 pub use fault::BuildFault;
-pub use gl_plan::Memory;
 pub use graph::{Graph, GraphUndo, Refused, Wave};
 pub use keeps::{Keeps, KeepsUndo};
 pub use node::Node;
