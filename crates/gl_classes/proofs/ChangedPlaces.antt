@@ -12,7 +12,7 @@ use Rattle.spec_sorting.specs.Sorted.{index_of}
 use Rattle.spec_sorting.specs.Arrangement.{Comparison, arrangement, IsArrangement}
 use Rattle.spec_sorting.proofs.SortedPositions.{In, all_below}
 use Rattle.spec_sorting.proofs.Arrangements.{arrangement_is, distinct_arrangement, within_arrangement}
-use Rattle.spec_sorting.proofs.Positions.{index_found, index_placed}
+use Rattle.spec_sorting.proofs.Indices.{index_found, index_placed}
 use Rattle.spec_sorting.proofs.Ranks.{in_permuted}
 use Rattle.gl_arranged.specs.Changes.{changed_of, rank_of, AreRanked}
 use Rattle.gl_arranged.specs.declared.changed.Changed.{Changed}

@@ -8,12 +8,11 @@ use Rattle.gl_joined.specs.Tree.{Tree}
 use Rattle.gl_joined.specs.Piece.{Piece, inserted, deleted, identity, old_len, new_len, normal, IsNormal}
 use Rattle.gl_joined.proofs.Normal.{normal_is}
 use Rattle.gl_joined.proofs.DeltaChanges.{old_len-append, new_len-append}
-use Rattle.gl_joined.proofs.Lengths.{old_len-identity, new_len-identity}
+use Rattle.gl_joined.proofs.Lengths.{old_len-identity, new_len-identity, old_len-inserted, new_len-inserted, old_len-deleted, new_len-deleted}
 use Rattle.gl_joined.proofs.DeltaEdits.{identity_normal, append_normal}
 use Rattle.spec_views.specs.Composite.{composite_view, attach_told, detach_told}
 use Rattle.gl_joined.proofs.Entries.{sum-first, sum-append}
 use Rattle.gl_joined.proofs.Joined.{sum_split}
-use Rattle.gl_joined.proofs.Parts.{inserted_olds, inserted_news, deleted_olds, deleted_news}
 use Rattle.gl_kernel.specs.Plans.{CanTell}
 use Rattle.gl_kernel.proofs.Spreads.{normal-append}
 use Rattle.gl_kernel.proofs.Play.{remove-insert}
@@ -43,8 +42,8 @@ sum_last ns n = omega (arith, sum-append ns (n ∷ []), sum-first n [])
 -- a part that is inserted after so many elements
 pub can_attach : (out : List Piece) (n : ℕ) (xs : List Tree) → out ≡ identity n → n + length xs ≤ 2147483647 → CanTell (map inserted xs) out
 can_attach out n xs e h = record {
-  olds = omega (arith, ap old_len e, old_len-identity n, inserted_olds xs, h);
-  news = omega (arith, ap new_len e, new_len-identity n, inserted_news xs, h);
+  olds = omega (arith, ap old_len e, old_len-identity n, old_len-inserted xs, h);
+  news = omega (arith, ap new_len e, new_len-identity n, new_len-inserted xs, h);
 }
 
 pub attached_is : (out more : List Piece) (n : ℕ) (xs : List Tree) → out ≡ identity n → more ≡ normal (out ++ map inserted xs) → more ≡ identity n ++ map inserted xs
@@ -69,8 +68,8 @@ deleted_normal (suc a) xs c = deleted_normal a xs c
 
 pub can_detach : (out : List Piece) (n : ℕ) (xs : List Tree) → out ≡ identity n → n + length xs ≤ 2147483647 → CanTell (map deleted xs) out
 can_detach out n xs e h = record {
-  olds = omega (arith, ap old_len e, old_len-identity n, deleted_olds xs, h);
-  news = omega (arith, ap new_len e, new_len-identity n, deleted_news xs, h);
+  olds = omega (arith, ap old_len e, old_len-identity n, old_len-deleted xs, h);
+  news = omega (arith, ap new_len e, new_len-identity n, new_len-deleted xs, h);
 }
 
 before_normal : (a : ℕ) (xs : List Tree) → IsNormal (identity a ++ map deleted xs)
@@ -81,8 +80,8 @@ pub can_pass : (out more : List Piece) (n : ℕ) (xs : List Tree) (rest : ℕ) �
 can_pass out more n xs rest e f h =
     let is : more ≡ identity n ++ map deleted xs = f ∙ (ap (λ ps. normal (ps ++ map deleted xs)) e ∙ normal_is (identity n ++ map deleted xs) (before_normal n xs)) in
     record {
-      olds = omega (arith, ap old_len is, old_len-append (identity n) (map deleted xs), old_len-identity n, deleted_olds xs, old_len-identity rest, h);
-      news = omega (arith, ap new_len is, new_len-append (identity n) (map deleted xs), new_len-identity n, deleted_news xs, new_len-identity rest, h);
+      olds = omega (arith, ap old_len is, old_len-append (identity n) (map deleted xs), old_len-identity n, old_len-deleted xs, old_len-identity rest, h);
+      news = omega (arith, ap new_len is, new_len-append (identity n) (map deleted xs), new_len-identity n, new_len-deleted xs, new_len-identity rest, h);
     }
 
 pub detached_is : (out more last : List Piece) (n : ℕ) (xs : List Tree) (rest : ℕ) → out ≡ identity n → more ≡ normal (out ++ map deleted xs) → last ≡ normal (more ++ identity rest)

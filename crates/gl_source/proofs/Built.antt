@@ -1,12 +1,12 @@
 -- What edits tell, built a change at a time.
-use Rattle.std.specs.Prelude.{◌≡◌, ℕ, zero, suc, ◌+◌, ◌-◌, ◌<◌, ◌≤◌, List, [], ◌∷◌, ◌++◌, length, map, take, slice_get, Some, unwrap_or, pos, refl}
+use Rattle.std.specs.Prelude.{◌≡◌, ℕ, zero, suc, ◌+◌, ◌-◌, ◌<◌, ◌≤◌, List, [], ◌∷◌, ◌++◌, length, map, take, slice_get, Some, unwrap_or, pos}
 use Rattle.std.proofs.Common.{ap, sym, ◌∙◌, arith, append_assoc}
 use Rattle.spec_value.specs.Tree.{Tree, num}
 use Rattle.spec_lists.specs.Piece.{Piece, updated, deleted, inserted, identity, old_len, new_len, normal, IsNormal}
 use Rattle.spec_lists.specs.Delta.{composed, one_insert, one_set, one_remove}
 use Rattle.spec_lists.proofs.Normal.{normal_is}
 use Rattle.spec_lists.proofs.Composition.{identity_is_neutral}
-use Rattle.spec_lists.proofs.Lengths.{old_len-identity, new_len-identity, old_len-one_insert, old_len-one_set, old_len-one_remove}
+use Rattle.spec_lists.proofs.Lengths.{old_len-identity, new_len-identity, old_len-one_insert, old_len-one_set, old_len-one_remove, old_len-inserted, new_len-inserted, old_len-deleted, new_len-deleted}
 use Rattle.spec_lists.proofs.DeltaChanges.{old_len-append, new_len-append}
 use Rattle.spec_lists.proofs.DeltaEdits.{around_normal, append_normal, clear_normal}
 use Rattle.spec_views.specs.Source.{element_at}
@@ -61,22 +61,6 @@ pub cleared_more : (xs : List Tree) (i : ℕ) (x : Tree) (ps qs : List Piece) �
 cleared_more xs i x ps qs e h f =
     let whole : ps ++ deleted x ∷ [] ≡ map deleted (take (suc i) xs) = ap (λ rs. rs ++ deleted x ∷ []) h ∙ next_mapped deleted xs i x e in
     f ∙ (ap normal whole ∙ normal_is (map deleted (take (suc i) xs)) (clear_normal (take (suc i) xs)))
-
-old_len-inserted : (vs : List Tree) → old_len (map inserted vs) ≡ 0
-old_len-inserted [] = refl
-old_len-inserted (v ∷ vs) = old_len-inserted vs
-
-new_len-inserted : (vs : List Tree) → new_len (map inserted vs) ≡ length vs
-new_len-inserted [] = refl
-new_len-inserted (v ∷ vs) = ap suc (new_len-inserted vs)
-
-old_len-deleted : (vs : List Tree) → old_len (map deleted vs) ≡ length vs
-old_len-deleted [] = refl
-old_len-deleted (v ∷ vs) = ap suc (old_len-deleted vs)
-
-new_len-deleted : (vs : List Tree) → new_len (map deleted vs) ≡ 0
-new_len-deleted [] = refl
-new_len-deleted (v ∷ vs) = new_len-deleted vs
 
 pub can_append : (n : ℕ) (xs : List Tree) (i : ℕ) (x : Tree) (ps : List Piece) → ps ≡ identity n ++ map inserted (take i xs) → i < length xs → n + length xs ≤ 2147483647 → CanTell (inserted x ∷ []) ps
 can_append n xs i x ps e h few = record {

@@ -1,5 +1,5 @@
 -- How long the lists of compositions are.
-use Rattle.std.proofs.Common.{◌≡◌, ◌∙◌, ℕ, zero, suc, ◌+◌, ◌-◌, ◌<◌, ◌≤◌, List, ◌∷◌, map, length, refl, ap, arith}
+use Rattle.std.proofs.Common.{◌≡◌, ◌∙◌, ℕ, zero, suc, ◌+◌, ◌-◌, ◌<◌, ◌≤◌, List, [], ◌∷◌, map, length, refl, ap, arith}
 use Rattle.spec_value.specs.Tree.{Tree}
 use Rattle.spec_lists.specs.Piece.{Piece, updated, deleted, inserted, inverted, identity, old_len, new_len}
 use Rattle.spec_lists.specs.Delta.{composed, inverse, one_insert, one_set, one_remove}
@@ -67,3 +67,20 @@ old_len-one_remove n at v h = old_len-append (identity at) (deleted v ∷ identi
 
 pub new_len-one_remove : (n at : ℕ) (v : Tree) → at < n → new_len (one_remove n at v) + 1 ≡ n
 new_len-one_remove n at v h = omega (arith, new_len-append (identity at) (deleted v ∷ identity (n - suc at)), new_len-identity at, new_len-identity (n - suc at))
+
+-- how many elements deltas have that insert alone, and that delete alone
+pub old_len-inserted : (xs : List Tree) → old_len (map inserted xs) ≡ 0
+old_len-inserted [] = refl
+old_len-inserted (x ∷ xs) = old_len-inserted xs
+
+pub new_len-inserted : (xs : List Tree) → new_len (map inserted xs) ≡ length xs
+new_len-inserted [] = refl
+new_len-inserted (x ∷ xs) = ap suc (new_len-inserted xs)
+
+pub old_len-deleted : (xs : List Tree) → old_len (map deleted xs) ≡ length xs
+old_len-deleted [] = refl
+old_len-deleted (x ∷ xs) = ap suc (old_len-deleted xs)
+
+pub new_len-deleted : (xs : List Tree) → new_len (map deleted xs) ≡ 0
+new_len-deleted [] = refl
+new_len-deleted (x ∷ xs) = new_len-deleted xs

@@ -14,6 +14,7 @@ pub mod Marks
 pub mod Ranked
 pub use Rattle.spec_views.proofs.SortedPositions
 pub use Rattle.spec_views.proofs.Arrangements
+pub use Rattle.spec_views.proofs.Indices
 pub use Rattle.spec_lists.proofs.Normal
 pub use Rattle.spec_lists.proofs.Lengths
 pub use Rattle.spec_lists.proofs.DeltaLeads

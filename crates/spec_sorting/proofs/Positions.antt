@@ -1,40 +1,15 @@
 -- Where the elements of a list stand in its sorted order.
-use Rattle.std.proofs.Common.{◌≡◌, ◌≢◌, ◌∙◌, ℕ, zero, suc, ◌<◌, true, false, List, [], ◌∷◌, length, refl, ap, sym, arith, inl, inr}
+use Rattle.std.proofs.Common.{◌≡◌, ◌∙◌, ℕ, ◌<◌, true, false, List, length, ap, sym, arith, inl, inr}
 use Rattle.std.specs.Prelude.{Some, slice_get, nat_lt}
 use Rattle.std.specs.Cmp.{IsTotalOrder}
-use Rattle.std.proofs.lemmas.Bool.{cases_order, cases_Bool, cases_eq, eq-eqb, ne_eqb, lt-ltb, le-ltb, false≢true}
-use Rattle.std.proofs.lemmas.Option.{slice_get_within}
+use Rattle.std.proofs.lemmas.Bool.{cases_order, cases_Bool, lt-ltb, le-ltb, false≢true}
+use Rattle.std.proofs.lemmas.Option.{slice_get_within, same_Some}
 use Rattle.spec_value.specs.Tree.{Tree}
 use Rattle.spec_views.specs.Arrangement.{Comparison, is_before, arrangement, IsArrangement}
-use Rattle.spec_views.specs.Sorted.{index_of}
-use Rattle.spec_views.proofs.SortedPositions.{In, In_at, Distinct, all_below, every_in}
+use Rattle.spec_views.proofs.SortedPositions.{all_below}
+use Rattle.spec_views.proofs.Indices.{index_found, index_placed, get_within}
 use Rattle.spec_views.proofs.Arrangements.{arrangement_is, distinct_arrangement, within_arrangement, before_trans, before_never}
 use Rattle.spec_sorting.specs.Moves.{sorted_position}
-
--- where a number stands that is one of a list
-pub index_found : (i : ℕ) (js : List ℕ) → In i js → slice_get js (index_of i js) ≡ Some i
-index_found i [] found = absurd found
-index_found i (j ∷ js) (inl same) = rw (eq-eqb j i (sym same)) (ap Some (sym same))
-index_found i (j ∷ js) (inr later) = elim (cases_eq j i) [
-  | inl same ↦ rw (eq-eqb j i same) (ap Some same)
-  | inr other ↦ rw (ne_eqb j i other) (index_found i js later)
-]
-
--- and of a list of distinct numbers the one at a place stands there
-pub index_placed : (js : List ℕ) (k i : ℕ) → Distinct js → slice_get js k ≡ Some i → index_of i js ≡ k
-index_placed [] k i d e = absurd cc
-index_placed (j ∷ js) zero i d e = let same : j ≡ i = cc in rw (eq-eqb j i same) refl
-index_placed (j ∷ js) (suc k) i d e =
-    let other : i ≢ j = every_in (λ m. m ≢ j) js i d.0 (In_at js k i e) in
-    rw (ne_eqb j i (λ f. other (sym f))) (ap suc (index_placed js k i d.1 e))
-
-get_within : (js : List ℕ) (k : ℕ) → k < length js → (i : ℕ) × (slice_get js k ≡ Some i)
-get_within [] k h = absurd (omega (arith, h))
-get_within (j ∷ js) zero h = (j, refl)
-get_within (j ∷ js) (suc k) h = get_within js k (omega (arith, h))
-
-some_same : (i j : ℕ) → Some i ≡ Some j → i ≡ j
-some_same i j e = cc
 
 module _ (compare : Comparison) (o : IsTotalOrder compare) (xs : List Tree) where
   pub position_at : (i : ℕ) → i < length xs → slice_get (arrangement compare xs) (sorted_position compare xs i) ≡ Some i
@@ -49,7 +24,7 @@ module _ (compare : Comparison) (o : IsTotalOrder compare) (xs : List Tree) wher
 
   pub position_once : (i j : ℕ) → i < length xs → j < length xs → sorted_position compare xs i ≡ sorted_position compare xs j → i ≡ j
   position_once i j i_less j_less same =
-      some_same i j (sym (position_at i i_less) ∙ (ap (slice_get (arrangement compare xs)) same ∙ position_at j j_less))
+      same_Some i j (sym (position_at i i_less) ∙ (ap (slice_get (arrangement compare xs)) same ∙ position_at j j_less))
 
   -- an element stands before another one exactly where its sorted place is less
   pub before_position : (i j : ℕ) → i < length xs → j < length xs

@@ -5,6 +5,7 @@ pub mod SortedPositions
 pub mod Arrangements
 pub mod Composites
 pub mod Same
+pub mod Indices
 pub mod SameSorted
 pub mod SameClasses
 pub mod SameChildren

@@ -14,30 +14,10 @@ use Rattle.spec_lists.proofs.DeltaLeads.{applied_no_change}
 use Rattle.spec_lists.proofs.Plains.{plains, pairs_identity, pieces_by_plains}
 use Rattle.spec_views.specs.Arrangement.{Comparison, IsArrangement, arrangement}
 use Rattle.spec_views.specs.Sorted.{sorted_view, stays, index_of, at_sorted_positions, by_old_position, sorted_pairs, sorted_follow}
-use Rattle.spec_views.proofs.SortedPositions.{Every, In, Distinct, all_below, In_at}
+use Rattle.spec_views.proofs.SortedPositions.{Every, In, Distinct, all_below}
+use Rattle.spec_views.proofs.Indices.{index_found, index_placed, get_within}
 use Rattle.spec_views.proofs.Arrangements.{arrangement_is, distinct_arrangement, within_arrangement}
 use Rattle.spec_basics.proofs.Options.{same_some}
-
--- where a number stands that is one of a list
-index_found : (i : ℕ) (js : List ℕ) → In i js → slice_get js (index_of i js) ≡ Some i
-index_found i [] found = absurd found
-index_found i (j ∷ js) (inl same) = rw (eq-eqb j i (sym same)) (ap Some (sym same))
-index_found i (j ∷ js) (inr later) = elim (cases_eq j i) [
-  | inl same ↦ rw (eq-eqb j i same) (ap Some same)
-  | inr other ↦ rw (ne_eqb j i other) (index_found i js later)
-]
-
-other_In : (j : ℕ) (js : List ℕ) (i : ℕ) → Every (λ m. m ≢ j) js → In i js → i ≢ j
-other_In j [] i e found = absurd found
-other_In j (m ∷ ms) i e (inl same) = λ f. e.0 (sym same ∙ f)
-other_In j (m ∷ ms) i e (inr later) = other_In j ms i e.1 later
-
-index_placed : (js : List ℕ) (k i : ℕ) → Distinct js → slice_get js k ≡ Some i → index_of i js ≡ k
-index_placed [] k i d e = absurd cc
-index_placed (j ∷ js) zero i d e = let same : j ≡ i = cc in rw (eq-eqb j i same) refl
-index_placed (j ∷ js) (suc k) i d e =
-    let other : i ≢ j = other_In j js i d.0 (In_at js k i e) in
-    rw (ne_eqb j i (λ f. other (sym f))) (ap suc (index_placed js k i d.1 e))
 
 -- the pair of an element with itself
 abbrev itself : ℕ → Pair
@@ -97,11 +77,6 @@ placed_alike : (compare : Comparison) (xs : List Tree) (a m : ℕ)
     ≡ map (λ p. moved (arrangement compare xs) p.old) (plains a m)
 placed_alike compare xs a zero = refl
 placed_alike compare xs a (suc m) = ap (λ us. moved (arrangement compare xs) a ∷ us) (placed_alike compare xs (suc a) m)
-
-get_within : (js : List ℕ) (k : ℕ) → k < length js → (i : ℕ) × (slice_get js k ≡ Some i)
-get_within [] k h = absurd (omega (arith, h))
-get_within (j ∷ js) zero h = (j, refl)
-get_within (j ∷ js) (suc k) h = get_within js k (omega (arith, h))
 
 sorted_plains : (compare : Comparison) → IsTotalOrder compare → (xs : List Tree)
     → sorted_pairs compare xs xs (plains 0 (length xs)) ≡ plains 0 (length xs)

@@ -6,7 +6,7 @@ use Rattle.gl_joined.proofs.Lengths.{old_len-identity}
 use Rattle.spec_lang.specs.Kids.{kids}
 use Rattle.gl_delta.specs.declared.cell.CellRef.{CellRef}
 use Rattle.gl_delta.specs.Cells.{cell_ref}
-use Rattle.gl_joined.proofs.Parts.{inserted_news}
+use Rattle.gl_joined.proofs.Lengths.{new_len-inserted}
 use Rattle.gl_kernel.specs.Fates.{fate, edits_of}
 use Rattle.gl_kernel.specs.Plans.{CanTell}
 use Rattle.gl_kernel.proofs.Spreads.{no_edits}
@@ -59,7 +59,7 @@ overflow_cast-news-in-Insert c =
     let left = drop c.args.plan.now.position c.args.lens.now.lens in
     let told = map inserted (f c.in-Insert.new.now) in
     let is = ap (λ (k : CellRef). new_len (told_children f left (pieces_in (cell_ref k)))) c.in-Insert.is in
-    omega (arith, c.requires.can.news, is, ap new_len (append-nil told), inserted_news (f c.in-Insert.new.now), ap length c.of-news-in-Insert.ensures)
+    omega (arith, c.requires.can.news, is, ap new_len (append-nil told), new_len-inserted (f c.in-Insert.new.now), ap length c.of-news-in-Insert.ensures)
 
 pub returns-in_ok-tell-in-Keep : goal.returns-in_ok-tell-in-Keep
 returns-in_ok-tell-in-Keep c =
