@@ -4,4 +4,5 @@ pub mod Lists
 pub mod Backward
 pub mod Rooms
 pub mod MarkSteps
+pub mod OldValues
 pub use Rattle.spec_lang.proofs.Sortings

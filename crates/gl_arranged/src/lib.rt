@@ -8,8 +8,10 @@ mod collected;
 mod follow;
 mod ranked;
 mod step;
+mod values;
 
 pub use arrangement::{Arrangement, ArrangementUndo, Moves};
 pub use changed::{Changed, Ranked};
 pub use gl_value::Memory;
 pub use step::Step;
+pub use values::old_value;

@@ -1,5 +1,4 @@
 pub mod Positions
-pub mod OldValues
 pub mod FirstMarks
 pub mod ChangedPlaces
 pub mod Searches

@@ -3,6 +3,6 @@ pub mod Stands
 pub mod Touching
 pub mod Firsts
 pub mod Finding
-pub mod OldValues
 pub mod Sides
 pub mod Unmet
+pub use Rattle.gl_arranged.specs.OldValues

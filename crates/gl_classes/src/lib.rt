@@ -9,13 +9,12 @@ mod firsts;
 mod meeting;
 mod slots;
 mod touched;
-mod values;
 
 pub use classes::{Classes, ClassesUndo};
 pub use firsts::edits;
+pub use gl_arranged::old_value;
 pub use gl_value::Memory;
 pub use meeting::meet;
 pub use slots::told_slots;
 pub use spec_classes::{First, NewClass, OldClass, Slot};
 pub use touched::{Touched, find_touched};
-pub use values::old_value;

@@ -8,7 +8,7 @@ ghost use Rattle.gl_classes.specs.OldValues.{IsOldValue};
 ghost use Rattle.gl_classes.specs.Finding.{AreOlds, AreNews, IsMet, met_one, met_new, met_olds, met_news};
 
 use crate::touched::Touched;
-use crate::values::old_value;
+use gl_arranged::old_value;
 use gl_delta::Delta;
 use gl_kernel::element;
 use gl_lang::Order;

@@ -37,7 +37,8 @@ use Rattle.gl_arranged.proofs.Ranks.{changed_rise}
 use Rattle.gl_arranged.proofs.Lists.{rising_span}
 use Rattle.gl_sorted.specs.declared.leaving.Leaving.{Leaving}
 use Rattle.gl_sorted.specs.Leaves.{ranks, settled, leaving_of, prefix_scanned, IsFound, AreFound}
-use Rattle.gl_sorted.specs.Merging.{CanMerge, IsOldValue, merged_from, old_spot, new_spot, old_spots_of, new_spots_of, is_kept_at, kept_positions, positions_kept}
+use Rattle.gl_arranged.specs.OldValues.{IsOldValue}
+use Rattle.gl_sorted.specs.Merging.{CanMerge, merged_from, old_spot, new_spot, old_spots_of, new_spots_of, is_kept_at, kept_positions, positions_kept}
 use Rattle.gl_sorted.proofs.Kept.{NoneGoes, KeptRise, kept_rise, none_goes, any_kept, kept_any, each_kept, filter_is}
 use Rattle.gl_sorted.proofs.Settled.{leaf, flagged, scans_are, flags_are, news_are, stays_are}
 

@@ -3,7 +3,7 @@ pub mod Replacement
 pub mod Positions
 pub mod Leavings
 pub mod Merges
-pub mod DependencyOrder
+pub mod NextTellings
 pub mod Settled
 pub mod Kept
 pub mod Laws

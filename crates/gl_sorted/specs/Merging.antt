@@ -1,15 +1,14 @@
 -- What is told, from the changed elements in sorted order.
-use Rattle.std.specs.Prelude.{◌≡◌, ◌&&◌, ◌<◌, ℕ, Bool, List, [], ◌∷◌, length, map, filter, if◌then◌else◌, Option, Some, slice_get}
+use Rattle.std.specs.Prelude.{◌≡◌, ◌&&◌, ◌<◌, ℕ, Bool, List, [], ◌∷◌, length, map, filter, if◌then◌else◌, Option, Some}
 use Rattle.std.specs.List.{All, list_any}
 use Rattle.spec_sorting.specs.Tree.{Tree}
 use Rattle.spec_sorting.specs.Delta.{Delta}
 use Rattle.spec_sorting.specs.Leads.{IsDelta}
-use Rattle.spec_sorting.specs.Sides.{sides, plain}
-use Rattle.spec_sorting.specs.Piece.{old_len}
 use Rattle.spec_sorting.specs.Source.{element_at}
 use Rattle.spec_sorting.specs.Merged.{Spot, between, AreAligned}
 use Rattle.spec_sorting.specs.Ranked.{is_some_position}
 use Rattle.gl_kernel.specs.Plans.{CanTell}
+use Rattle.gl_arranged.specs.OldValues.{IsOldValue}
 use Rattle.gl_arranged.specs.declared.changed.Ranked.{Ranked}
 use Rattle.gl_sorted.specs.declared.leaving.Leaving.{Leaving}
 use Rattle.gl_sorted.specs.Leaves.{ranks}
@@ -32,11 +31,6 @@ old_spots_of xs ls = map (old_spot xs) ls
 
 abbrev pub new_spots_of : List Leaving → List Tree → List Ranked → List Spot
 new_spots_of ls ys rs = map (new_spot ls ys) rs
-
--- the delta has a value for an element of its old list
-pub record IsOldValue (d : Delta) (i : ℕ) : Type 0 where
-  pub within : i < old_len d
-  pub changed : (j : ℕ) → slice_get (sides d).old i ≡ Some (plain j) → ⊥
 
 -- the new places of those that stay
 abbrev pub kept_positions : List Leaving → List (Option ℕ)

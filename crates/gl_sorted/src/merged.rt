@@ -1,17 +1,15 @@
 //! What a sorted list tells of a change, from its changed elements in sorted order.
 
-ghost use Rattle.std.specs.Prelude.{◌≡◌, ◌+◌, ◌<◌, List, length, drop, IfOk, OnOk};
+ghost use Rattle.std.specs.Prelude.{◌≡◌, ◌+◌, ◌<◌, length, drop, IfOk, OnOk};
 ghost use Rattle.spec_sorting.specs.Piece.{normal};
-ghost use Rattle.spec_sorting.specs.Leads.{undone, LeadsFrom};
-ghost use Rattle.spec_sorting.specs.Tree.{Tree};
-ghost use Rattle.spec_sorting.specs.Source.{element_at};
+ghost use Rattle.spec_sorting.specs.Leads.{undone};
 ghost use Rattle.spec_sorting.specs.Ranked.{is_some_position};
-ghost use Rattle.gl_sorted.specs.Merging.{CanMerge, merged_from, IsOldValue};
+ghost use Rattle.gl_sorted.specs.Merging.{CanMerge, merged_from};
 ghost use Rattle.gl_sorted.specs.Next.{next_leaving, next_ranked, next_turn, IsLeft, GoesOn, AtChange, IsDeleteNext, IsInsertNext, IsUpdateNext};
 
 use crate::leaving::Leaving;
-use gl_arranged::Ranked;
-use gl_delta::{Cell, Delta, Old};
+use gl_arranged::{Ranked, old_value};
+use gl_delta::{Cell, Delta};
 use gl_kernel::{element, tell};
 use gl_value::{Shelf, Value};
 use std::alloc::{AllocError, Global};
@@ -31,17 +29,6 @@ pub(crate) enum Turn {
     Delete,
     Update,
     Insert,
-}
-
-// The old value of an element that was deleted or updated.
-fn old_value(d: &Delta, source: usize) -> &Value
-    requires { IsOldValue d.now.pieces source }
-    ensures { (xs : List Tree) → LeadsFrom d.now.pieces xs → result.now ≡ element_at xs source }
-{
-    match d.old_at(source) {
-        Old::Value(value) => value,
-        Old::Kept(_) => unreachable!(),
-    }
 }
 
 // Where the next changed element of the old list stands; the end, where there is none.

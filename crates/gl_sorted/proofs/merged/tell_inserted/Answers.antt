@@ -7,7 +7,7 @@ use Rattle.spec_sorting.proofs.Spreads.{next_from}
 use Rattle.gl_kernel.specs.Plans.{CanTell}
 use Rattle.gl_arranged.specs.declared.changed.Ranked.{Ranked}
 use Rattle.gl_sorted.proofs.Merges.{inserted_goes, can_insert, drop_rest}
-use Rattle.gl_sorted.proofs.DependencyOrder.{value_here}
+use Rattle.gl_sorted.proofs.NextTellings.{value_here}
 use Rattle.gl_sorted.proofs.merged.tell_inserted.Goals as goal
 
 pub tell-requires : goal.tell-requires

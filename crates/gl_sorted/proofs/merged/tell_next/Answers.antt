@@ -1,6 +1,6 @@
 use Rattle.std.proofs.Common.{sym, arith}
 use Rattle.spec_sorting.specs.Leads.{undone}
-use Rattle.gl_sorted.proofs.DependencyOrder.{update_next, insert_next}
+use Rattle.gl_sorted.proofs.NextTellings.{update_next, insert_next}
 use Rattle.gl_sorted.proofs.merged.tell_next.Goals as goal
 
 pub tell_updated-requires-clause-next : goal.tell_updated-requires-clause-next

@@ -9,7 +9,7 @@ use Rattle.gl_arranged.specs.declared.changed.Ranked.{Ranked}
 use Rattle.gl_sorted.specs.declared.leaving.Leaving.{Leaving}
 use Rattle.gl_sorted.proofs.Merges.{updated_goes, can_update, drop_rest}
 use Rattle.std.proofs.Common.{false}
-use Rattle.gl_sorted.proofs.DependencyOrder.{value_here}
+use Rattle.gl_sorted.proofs.NextTellings.{value_here}
 use Rattle.gl_sorted.proofs.merged.tell_updated.Goals as goal
 
 pub old_value-old-requires : goal.old_value-old-requires

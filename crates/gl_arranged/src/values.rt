@@ -4,7 +4,7 @@ ghost use Rattle.std.specs.Prelude.{◌≡◌, List};
 ghost use Rattle.spec_sorting.specs.Leads.{LeadsFrom};
 ghost use Rattle.spec_sorting.specs.Tree.{Tree};
 ghost use Rattle.spec_sorting.specs.Source.{element_at};
-ghost use Rattle.gl_classes.specs.OldValues.{IsOldValue};
+ghost use Rattle.gl_arranged.specs.OldValues.{IsOldValue};
 
 use gl_delta::{Delta, Old};
 use gl_value::Value;
