@@ -1,5 +1,5 @@
 -- Whether a touched class of the one list has one of its key in the other.
-use Rattle.std.proofs.Common.{◌≡◌, ◌∙◌, ◌⊎◌, ℕ, zero, suc, ◌<◌, ◌≤◌, ◌&&◌, ◌||◌, Bool, true, false, List, [], ◌∷◌, length, map, refl, ap, sym, subst, arith, inl, inr}
+use Rattle.std.proofs.Common.{◌≡◌, ◌∙◌, ◌⊎◌, ℕ, zero, suc, ◌&&◌, ◌||◌, Bool, true, false, List, [], ◌∷◌, map, refl, ap, sym, subst, inl, inr}
 use Rattle.std.specs.Prelude.{not, Option, Some, None, slice_get}
 use Rattle.std.specs.Option.{is_some}
 use Rattle.std.specs.List.{list_any, list_all, AllByRecursion as Each}
@@ -15,7 +15,7 @@ use Rattle.spec_sorting.specs.Arrangement.{Comparison}
 use Rattle.spec_sorting.proofs.SortedPositions.{In}
 use Rattle.spec_classes.specs.Classes.{Class, first_of, classes, is_kept_old, is_kept_new}
 use Rattle.spec_classes.specs.Meetings.{of_key}
-use Rattle.spec_classes.proofs.Keys.{key_tied, tied_is_key, IsWhole, classes_whole, IsMember, member_is}
+use Rattle.spec_classes.proofs.Keys.{key_tied, tied_is_key, IsWhole, classes_whole, member_is}
 use Rattle.spec_classes.proofs.Kept.{any_here, old_meets, new_meets, none_kept_meets, none_kept_met}
 use Rattle.gl_classes.specs.declared.touched.Touched.{Touched}
 use Rattle.gl_classes.specs.Finding.{meets, stays_if}

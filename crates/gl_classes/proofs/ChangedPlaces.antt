@@ -1,15 +1,14 @@
 -- The changed elements of a list in sorted order stand where the elements stand that aren't plain.
-use Rattle.std.proofs.Common.{◌≡◌, ◌∙◌, ◌⊎◌, ℕ, zero, suc, ◌+◌, ◌<◌, ◌≤◌, List, [], ◌∷◌, length, map, refl, ap, sym, subst, arith, inl, inr}
-use Rattle.std.specs.Prelude.{Some, None, slice_get}
+use Rattle.std.proofs.Common.{◌≡◌, ◌∙◌, ℕ, zero, suc, ◌+◌, ◌<◌, List, [], ◌∷◌, length, map, refl, ap, sym, subst, arith, inl, inr}
+use Rattle.std.specs.Prelude.{Some, slice_get}
 use Rattle.std.specs.List.{AllByRecursion as Each}
-use Rattle.std.specs.List.Sorted.{IsPermutation}
 use Rattle.std.specs.Cmp.{IsTotalOrder}
 use Rattle.std.proofs.lemmas.List.Elements.{All-from_recursion, recursion_from_All}
 use Rattle.std.proofs.lemmas.List.Sorted.{All-permutation, IsPermutation-map}
 use Rattle.spec_sorting.specs.Tree.{Tree}
 use Rattle.spec_sorting.specs.Sides.{Item, plain, changed, lone}
 use Rattle.spec_sorting.specs.Sorted.{index_of}
-use Rattle.spec_sorting.specs.Arrangement.{Comparison, arrangement, IsArrangement}
+use Rattle.spec_sorting.specs.Arrangement.{Comparison, arrangement}
 use Rattle.spec_sorting.proofs.SortedPositions.{In, all_below}
 use Rattle.spec_sorting.proofs.Arrangements.{arrangement_is, distinct_arrangement, within_arrangement}
 use Rattle.spec_sorting.proofs.Indices.{index_found, index_placed}

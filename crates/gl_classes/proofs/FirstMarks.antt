@@ -1,5 +1,5 @@
 -- The edits that follow the steps of an arrangement keep the marks of the first members.
-use Rattle.std.proofs.Common.{◌≡◌, ◌∙◌, ℕ, zero, suc, ◌+◌, ◌<◌, ◌≤◌, ◌&&◌, ◌++◌, Bool, true, false, List, [], ◌∷◌, length, map, take, insert, remove, refl, ap, sym, subst, arith, append_assoc}
+use Rattle.std.proofs.Common.{◌≡◌, ◌∙◌, ℕ, zero, suc, ◌+◌, ◌<◌, ◌≤◌, ◌++◌, Bool, true, false, List, [], ◌∷◌, length, map, take, insert, remove, refl, ap, sym, subst, arith}
 use Rattle.std.specs.Prelude.{not, Some, slice_get, slice_set, if◌then◌else◌}
 use Rattle.std.proofs.lemmas.List.{length-map, length-set}
 use Rattle.std.proofs.lemmas.List.Edits.{length-remove}
@@ -37,12 +37,12 @@ set_remove (m ∷ n ∷ ms) zero b = refl
 set_remove (m ∷ ms) (suc k) b = ap (λ ns. m ∷ ns) (set_remove ms k b)
 
 -- a log makes marks of the first members of others
-pub record Follows (log : List (LogStep Bool)) (ms new : List Bool) : Type 0 where
+pub record Plays (log : List (LogStep Bool)) (ms new : List Bool) : Type 0 where
   pub within : AreWithin log (map not ms)
   pub is : played log (map not ms) ≡ map not new
 
 removed_by : (t : Bool) (p : ℕ) (ms : List Bool) → p < length ms → (t ≡ true → suc p < length ms)
-    → Follows ((if t then Set p true ∷ [] else []) ++ Remove p ∷ []) ms (remove (if t then slice_set ms (suc p) false else ms) p)
+    → Plays ((if t then Set p true ∷ [] else []) ++ Remove p ∷ []) ms (remove (if t then slice_set ms (suc p) false else ms) p)
 removed_by true p ms within next = record {
   within = ((tt, omega (arith, within, length-map ms not)), omega (arith, next refl, length-remove (map not ms) p (omega (arith, within, length-map ms not)), length-map ms not));
   is = ap (λ ns. slice_set ns p true) (map_remove ms p) ∙ (map_set (remove ms p) p false ∙ ap (map not) (set_remove ms p false));
@@ -53,7 +53,7 @@ removed_by false p ms within next = record {
 }
 
 inserted_by : (t : Bool) (p : ℕ) (b : Bool) (ms : List Bool) → p ≤ length ms → (t ≡ true → p < length ms)
-    → Follows (Insert p (not b) ∷ (if t then Set p false ∷ [] else [])) ms (insert (if t then slice_set ms p true else ms) p b)
+    → Plays (Insert p (not b) ∷ (if t then Set p false ∷ [] else [])) ms (insert (if t then slice_set ms p true else ms) p b)
 inserted_by true p b ms within next = record {
   within = ((tt, omega (arith, next refl, length-map ms not)), omega (arith, within, length-map ms not, length-set (map not ms) p false));
   is = ap (λ ns. insert ns p (not b)) (map_set ms p true) ∙ map_insert (slice_set ms p true) p b;
@@ -63,7 +63,7 @@ inserted_by false p b ms within next = record {
   is = map_insert ms p b;
 }
 
-step_follows : (s : Step) (ms : List Bool) → CanMake s ms → Follows (step_edits s) ms (made s ms)
+step_follows : (s : Step) (ms : List Bool) → CanMake s ms → Plays (step_edits s) ms (made s ms)
 step_follows (Removed source spot) ms can = removed_by (leads_key spot) spot.place ms can.0 can.1
 step_follows (Inserted source spot) ms can = inserted_by (leads_key spot) spot.place spot.before ms can.0 can.1
 
@@ -82,7 +82,7 @@ insertions_append (Remove at ∷ us) bs = insertions_append us bs
 insertions_append (Set at x ∷ us) bs = insertions_append us bs
 
 -- all edits of steps make the marks that the steps make
-pub edits_make : (ss : List Step) (ms : List Bool) → CanMakeAll ss ms → Follows (all_edits ss) ms (all_made ss ms)
+pub edits_make : (ss : List Step) (ms : List Bool) → CanMakeAll ss ms → Plays (all_edits ss) ms (all_made ss ms)
 edits_make [] ms can = record { within = tt; is = refl }
 edits_make (s ∷ ss) ms can =
     let one = step_follows s ms can.0 in

@@ -1,16 +1,16 @@
 -- The touched classes that were found so far, of the changed elements before one at an index.
-use Rattle.std.proofs.Common.{◌≡◌, ◌∙◌, ◌⊎◌, ℕ, zero, suc, ◌+◌, ◌-◌, ◌<◌, ◌≤◌, ◌++◌, Bool, List, [], ◌∷◌, length, map, refl, ap, sym, subst, arith, inl, inr}
+use Rattle.std.proofs.Common.{◌≡◌, ◌∙◌, ℕ, zero, suc, ◌-◌, ◌<◌, ◌≤◌, ◌++◌, Bool, List, [], ◌∷◌, length, map, refl, ap, sym, subst, arith, inl, inr}
 use Rattle.std.specs.Prelude.{Some, slice_get}
 use Rattle.std.specs.List.{AllByRecursion as Each}
-use Rattle.std.proofs.lemmas.Bool.{cases_lt, cases_eq, cases_order}
+use Rattle.std.proofs.lemmas.Bool.{cases_lt, cases_eq}
 use Rattle.std.proofs.lemmas.List.{map-append}
 use Rattle.std.proofs.lemmas.Option.{slice_get_within}
 use Rattle.spec_sorting.specs.Moves.{IsRising}
 use Rattle.spec_sorting.proofs.SortedPositions.{In}
-use Rattle.spec_sorting.proofs.Partners.{each_weaker, each_both}
+use Rattle.spec_sorting.proofs.Partners.{each_weaker}
 use Rattle.gl_arranged.specs.declared.changed.Ranked.{Ranked}
 use Rattle.gl_classes.specs.declared.touched.Touched.{Touched}
-use Rattle.gl_classes.specs.Touching.{class_of, places, AreChangedIn, IsNext, IsTouched, AreTouched}
+use Rattle.gl_classes.specs.Touching.{class_of, AreChangedIn, IsNext, IsTouched, AreTouched}
 use Rattle.gl_classes.proofs.Spans.{ranked_rise, in_index, next_is_touched}
 
 abbrev pub class_list : List Touched → List ℕ

@@ -8,7 +8,7 @@ use Rattle.spec_sorting.specs.Sides.{Item, plain, changed, lone, sides}
 use Rattle.spec_sorting.specs.Delta.{Delta}
 use Rattle.spec_sorting.proofs.Items.{swapped}
 use Rattle.spec_sorting.proofs.Follow.{pairs_turned}
-use Rattle.spec_classes.specs.Classes.{is_kept_old, is_kept_new, is_plain_pair}
+use Rattle.spec_classes.specs.Classes.{is_kept_old, is_kept_new}
 use Rattle.spec_classes.specs.Slots.{read_by, read_after}
 use Rattle.spec_classes.specs.Told.{is_still}
 use Rattle.spec_classes.proofs.PlainPairs.{partner_of_old, kept_by_old, still_plain}

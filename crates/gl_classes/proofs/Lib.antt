@@ -1,3 +1,4 @@
+pub mod Rooms
 pub mod Positions
 pub mod FirstMarks
 pub mod ChangedPlaces
@@ -8,6 +9,7 @@ pub mod Standing
 pub mod Runs
 pub mod Spans
 pub mod FoundClasses
+pub mod ChangedIn
 pub mod Meetings
 pub mod BothSides
 pub mod TouchedLists
@@ -16,3 +18,7 @@ pub mod Gaps
 pub mod WalkSteps
 pub mod SidesMade
 pub mod ToldSides
+pub mod Following
+pub mod TouchedInTurn
+pub mod Cuts
+pub use Rattle.gl_arranged.proofs.Sortings

@@ -1,19 +1,19 @@
 -- The touched classes of the old list that those of the new list have met so far.
-use Rattle.std.proofs.Common.{◌≡◌, ◌≢◌, ◌∙◌, ℕ, zero, suc, ◌+◌, ◌<◌, ◌≤◌, ◌&&◌, ◌||◌, ◌++◌, ◌*◌, Bool, true, false, List, [], ◌∷◌, length, get_or, map, take, drop, refl, ap, sym, subst, arith, inl, inr}
-use Rattle.std.specs.Prelude.{not, Option, Some, None, slice_get, slice_set}
+use Rattle.std.proofs.Common.{◌≡◌, ◌≢◌, ◌∙◌, ℕ, zero, suc, ◌+◌, ◌<◌, ◌≤◌, ◌&&◌, ◌||◌, ◌++◌, ◌*◌, Bool, true, false, List, [], ◌∷◌, length, get_or, map, take, drop, refl, ap, sym, arith, inl, inr}
+use Rattle.std.specs.Prelude.{not, Some, None, slice_get, slice_set}
 use Rattle.std.specs.List.{list_any, AllByRecursion as Each}
 use Rattle.std.specs.Cmp.{IsTotalOrder, tied_back}
 use Rattle.std.specs.Ordering.{is_eq}
 use Rattle.std.specs.declared.cmp.Ordering.{Ordering}
 use Rattle.std.specs.declared.cmp.Ordering.TheVariants.{Less, Equal, Greater}
-use Rattle.std.proofs.lemmas.Bool.{cases_order, cases_Bool}
+use Rattle.std.proofs.lemmas.Bool.{cases_order}
 use Rattle.spec_sorting.specs.Tree.{Tree}
 use Rattle.spec_sorting.specs.Delta.{Delta}
 use Rattle.spec_sorting.specs.Source.{element_at}
 use Rattle.spec_sorting.specs.Arrangement.{Comparison}
 use Rattle.gl_classes.specs.OldValues.{IsOldValue}
 use Rattle.gl_classes.specs.declared.touched.Touched.{Touched}
-use Rattle.gl_classes.specs.Finding.{AreOlds, IsMet, meets, stays_if, met_one, met_new, met_olds, met_news}
+use Rattle.gl_classes.specs.Finding.{AreOlds, IsMet, meets, stays_if, met_one, met_new, met_olds}
 
 some_same : {X : Type 0} (x y : X) → Some x ≡ Some y → x ≡ y
 some_same x y e = cc

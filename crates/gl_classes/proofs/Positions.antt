@@ -1,13 +1,13 @@
 -- Which class the element at a sorted place is of, by the marks of the first members.
-use Rattle.std.proofs.Common.{◌≡◌, ◌∙◌, ◌⊎◌, ℕ, zero, suc, ◌+◌, ◌<◌, ◌≤◌, ◌++◌, Bool, true, false, List, [], ◌∷◌, length, map, take, refl, ap, sym, subst, arith, inl, inr}
+use Rattle.std.proofs.Common.{◌≡◌, ◌∙◌, ◌⊎◌, ℕ, zero, suc, ◌≤◌, ◌++◌, Bool, true, false, List, [], ◌∷◌, length, map, take, refl, ap, sym, subst, arith, inl, inr}
 use Rattle.std.specs.Prelude.{Some, slice_get}
 use Rattle.std.specs.List.{AllByRecursion as Each}
 use Rattle.spec_sorting.specs.Tree.{Tree}
 use Rattle.spec_sorting.specs.Arrangement.{Comparison}
 use Rattle.spec_sorting.proofs.SortedPositions.{In}
 use Rattle.spec_classes.specs.Classes.{Class, first_of}
-use Rattle.spec_classes.specs.Members.{joined, first_marks, firsts, IsClass}
-use Rattle.gl_barcode.specs.Bars.{count_shown, IsKthShown}
+use Rattle.spec_classes.specs.Members.{joined, firsts, IsClass}
+use Rattle.gl_barcode.specs.Bars.{count_shown}
 use Rattle.gl_classes.specs.Touching.{class_of}
 
 -- what stands at a sorted place, and which class it is of

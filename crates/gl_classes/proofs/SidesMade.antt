@@ -1,23 +1,20 @@
 -- The touched classes of both lists, once they have met.
-use Rattle.std.proofs.Common.{◌≡◌, ◌∙◌, ◌⊎◌, ℕ, zero, suc, ◌+◌, ◌*◌, ◌^◌, ◌<◌, ◌≤◌, ◌&&◌, ◌||◌, Bool, true, false, List, [], ◌∷◌, length, map, refl, ap, sym, subst, arith, inl, inr}
+use Rattle.std.proofs.Common.{◌≡◌, ◌∙◌, ℕ, suc, ◌+◌, ◌<◌, ◌≤◌, ◌&&◌, ◌||◌, Bool, true, false, List, [], ◌∷◌, length, refl, ap, sym, subst, arith, inl, inr}
 use Rattle.std.specs.Prelude.{not, Option, Some, None, slice_get}
 use Rattle.std.specs.Option.{is_some}
 use Rattle.std.specs.List.{list_any, list_all, AllByRecursion as Each}
 use Rattle.std.specs.Cmp.{IsTotalOrder, alike_right}
-use Rattle.std.specs.declared.cmp.Ordering.TheVariants.{Less, Equal}
 use Rattle.std.proofs.lemmas.Option.{slice_get_within}
 use Rattle.spec_sorting.specs.Tree.{Tree}
 use Rattle.spec_sorting.specs.Delta.{Delta}
-use Rattle.spec_sorting.specs.Piece.{inverted, old_len}
 use Rattle.spec_sorting.specs.Pairs.{pairs}
 use Rattle.spec_sorting.specs.Sides.{Item, sides, plain, changed, lone}
-use Rattle.spec_sorting.specs.Leads.{LeadsTo, LeadsFrom, applied, undone}
+use Rattle.spec_sorting.specs.Leads.{LeadsFrom, applied}
 use Rattle.spec_sorting.specs.Source.{element_at}
 use Rattle.spec_sorting.specs.Arrangement.{Comparison, arrangement}
 use Rattle.spec_sorting.specs.Moves.{IsRising}
 use Rattle.spec_sorting.proofs.Arrangements.{arrangement_is}
-use Rattle.spec_sorting.proofs.Composition.{length-olds}
-use Rattle.spec_sorting.proofs.DeltaLeads.{leads_back_to, length_from}
+use Rattle.spec_sorting.proofs.DeltaLeads.{length_from}
 use Rattle.spec_sorting.proofs.Partners.{each_weaker}
 use Rattle.spec_sorting.proofs.SortedPositions.{In}
 use Rattle.spec_classes.specs.Classes.{Class, first_of, classes, is_kept_old, is_kept_new}
@@ -29,17 +26,17 @@ use Rattle.spec_classes.proofs.Keys.{IsWhole, classes_whole, member_is}
 use Rattle.gl_arranged.specs.Changes.{AreRanked}
 use Rattle.gl_arranged.specs.declared.changed.Ranked.{Ranked}
 use Rattle.gl_classes.specs.declared.touched.Touched.{Touched}
-use Rattle.gl_classes.specs.Finding.{AreOlds, AreNews, meets, stays_if, met_olds, met_news}
+use Rattle.gl_classes.specs.Finding.{AreOlds, meets, stays_if, met_olds, met_news}
 use Rattle.gl_classes.specs.OldValues.{IsOldValue}
 use Rattle.gl_classes.specs.Sides.{IsOld, IsNew, IsPlainNew, AreSides}
 use Rattle.gl_classes.specs.Touching.{IsTouched, AreTouched}
 use Rattle.gl_classes.proofs.BothSides.{each_at, old_stays, new_stays}
 use Rattle.gl_classes.proofs.ChangedPlaces.{StandsThere, ranked_there}
 use Rattle.gl_classes.proofs.FoundClasses.{class_list}
-use Rattle.gl_classes.proofs.KeptMembers.{keeps_old, keeps_new}
+use Rattle.gl_classes.proofs.KeptMembers.{keeps_old}
 use Rattle.gl_classes.proofs.Meetings.{with_test}
 use Rattle.gl_classes.proofs.TouchedClasses.{KeepsBy, IsTouchedClass, touched_class, other_class}
-use Rattle.gl_classes.proofs.TouchedLists.{get_here, classes_rise}
+use Rattle.gl_classes.proofs.TouchedLists.{classes_rise}
 use Rattle.gl_classes.proofs.Walk.{first_in, keys_rise}
 
 true_false : true ≡ false → ⊥

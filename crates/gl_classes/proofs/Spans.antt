@@ -1,17 +1,15 @@
 -- The sorted places of a class, and the classes of changed elements one after another.
-use Rattle.std.proofs.Common.{◌≡◌, ◌≢◌, ◌∙◌, ◌⊎◌, ℕ, zero, suc, ◌+◌, ◌-◌, ◌<◌, ◌≤◌, ◌==◌, ◌++◌, Bool, true, false, List, [], ◌∷◌, length, map, take, drop, refl, ap, sym, subst, arith, inl, inr}
+use Rattle.std.proofs.Common.{◌≡◌, ◌≢◌, ◌∙◌, ℕ, zero, suc, ◌+◌, ◌-◌, ◌<◌, ◌≤◌, Bool, true, false, List, [], ◌∷◌, length, take, refl, ap, sym, subst, arith, inl, inr}
 use Rattle.std.specs.Prelude.{Option, Some, None, slice_get}
-use Rattle.std.specs.Option.{is_some}
-use Rattle.std.specs.List.{AllByRecursion as Each}
-use Rattle.std.proofs.lemmas.Bool.{cases_lt, cases_order, cases_eq, eq-eqb, ne_eqb}
+use Rattle.std.proofs.lemmas.Bool.{cases_lt, cases_order, cases_eq, eq-eqb}
 use Rattle.std.proofs.lemmas.Option.{slice_get_within}
 use Rattle.spec_sorting.specs.Moves.{IsRising}
 use Rattle.spec_sorting.proofs.SortedPositions.{In}
 use Rattle.gl_barcode.specs.Bars.{count_shown, IsKthShown}
 use Rattle.gl_arranged.specs.declared.changed.Ranked.{Ranked}
 use Rattle.gl_classes.specs.declared.touched.Touched.{Touched}
-use Rattle.gl_classes.specs.Touching.{class_of, places, AreChangedIn, RunsOn, Stops, IsRun, IsEnd, IsSpan, IsNext, IsPlain, IsTouched, AreTouched}
-use Rattle.gl_classes.proofs.Positions.{count_more, count_here, count_none}
+use Rattle.gl_classes.specs.Touching.{class_of, places, AreChangedIn, IsRun, IsSpan, IsNext, IsPlain, IsTouched}
+use Rattle.gl_classes.proofs.Positions.{count_more, count_here}
 
 pub take_all : (bs : List Bool) (n : ℕ) → length bs ≤ n → take n bs ≡ bs
 take_all [] zero h = refl

@@ -1,10 +1,9 @@
 -- The marks of the first members, where the classes stand for a list.
-use Rattle.std.proofs.Common.{◌≡◌, ◌∙◌, ℕ, zero, suc, ◌<◌, ◌≤◌, List, [], ◌∷◌, length, map, refl, ap, sym, subst, arith, inl, inr}
+use Rattle.std.proofs.Common.{◌≡◌, ◌∙◌, ℕ, ◌<◌, List, length, map, refl, ap, sym, subst, arith}
 use Rattle.std.specs.Prelude.{not, Option, Some, None, slice_get, option_map}
-use Rattle.std.specs.Cmp.{IsTotalOrder}
 use Rattle.std.proofs.lemmas.Option.{slice_get_within}
 use Rattle.spec_sorting.specs.Tree.{Tree}
-use Rattle.spec_sorting.specs.Arrangement.{Comparison, arrangement, same_key_marks}
+use Rattle.spec_sorting.specs.Arrangement.{Comparison, same_key_marks}
 use Rattle.spec_classes.specs.Classes.{Class, first_of, classes}
 use Rattle.spec_classes.specs.Members.{joined, firsts}
 use Rattle.spec_classes.proofs.Members.{are_classes}
@@ -13,7 +12,7 @@ use Rattle.gl_arranged.proofs.Sortings.{order_cmp_total}
 use Rattle.gl_barcode.specs.Bars.{count_shown, IsKthShown}
 use Rattle.gl_classes.specs.Kept.{Kept}
 use Rattle.gl_classes.specs.Stands.{StandsFor}
-use Rattle.gl_classes.proofs.Positions.{IsPlaced, placed, class_count, count_here}
+use Rattle.gl_classes.proofs.Positions.{placed, class_count, count_here}
 use Rattle.gl_classes.proofs.TouchedClasses.{firsts_long}
 
 module _ (k : Kept) (xs : List Tree) (stands : StandsFor k xs) where

@@ -1,15 +1,14 @@
 -- What telling the touched keys needs, from the changed elements.
-use Rattle.std.proofs.Common.{◌≡◌, ◌∙◌, ℕ, ◌+◌, ◌*◌, ◌^◌, ◌<◌, ◌≤◌, List, length, map, refl, ap, sym, subst, arith}
+use Rattle.std.proofs.Common.{◌≡◌, ◌∙◌, ◌≤◌, List, length, map, sym, subst, arith}
 use Rattle.std.specs.Cmp.{IsTotalOrder}
-use Rattle.std.specs.List.{AllByRecursion as Each}
 use Rattle.std.proofs.lemmas.List.{length-map}
 use Rattle.std.proofs.lemmas.List.Sorted.{length_permutation}
 use Rattle.spec_sorting.specs.Tree.{Tree}
 use Rattle.spec_sorting.specs.Delta.{Delta}
 use Rattle.spec_sorting.specs.Piece.{inverted, old_len}
 use Rattle.spec_sorting.specs.Pairs.{pairs}
-use Rattle.spec_sorting.specs.Sides.{sides, olds as items_of}
-use Rattle.spec_sorting.specs.Leads.{LeadsTo, LeadsFrom, applied, undone}
+use Rattle.spec_sorting.specs.Sides.{sides}
+use Rattle.spec_sorting.specs.Leads.{LeadsTo, LeadsFrom, undone}
 use Rattle.spec_sorting.specs.Arrangement.{Comparison, arrangement}
 use Rattle.spec_sorting.proofs.Composition.{length-olds}
 use Rattle.spec_sorting.proofs.DeltaLeads.{leads_back_to, length_from}
@@ -27,7 +26,8 @@ use Rattle.gl_classes.specs.Unmet.{AreTouchedOld}
 use Rattle.gl_classes.specs.Kept.{Kept}
 use Rattle.gl_classes.specs.Sides.{AreSides}
 use Rattle.gl_classes.specs.Stands.{StandsFor}
-use Rattle.gl_classes.specs.Touching.{AreTouched}
+use Rattle.gl_classes.specs.Touching.{AreChangedIn, AreTouched}
+use Rattle.gl_classes.proofs.ChangedIn.{changed_in}
 use Rattle.gl_classes.proofs.KeptMembers.{keeps_old, keeps_new}
 use Rattle.gl_classes.proofs.Standing.{shown_is}
 use Rattle.gl_classes.proofs.SidesMade.{all_classes, all_others, all_within, few_touched, olds_searched, sides_made}
@@ -68,27 +68,31 @@ module _ (k : Kept) (ys : List Tree) (d : Delta) (leads_to : LeadsTo d ys) (olds
       let most = few_classes compare o xs in
       omega (arith, few, most, length_from d xs leads)
 
-  module _ (stands : StandsFor k ys) (came : List Ranked) (came_are : AreRanked k.list.tree.places (sides d).new came) (news : List Touched) (touched : AreTouched k.firsts.shown came news) where
+  module _ (stands : StandsFor k ys) (came : List Ranked) (came_are : AreRanked k.list.tree.places (sides d).new came) where
     came_ranked : AreRanked (arrangement compare ys) (sides d).new came
     came_ranked = subst (λ is. AreRanked is (sides d).new came) stands.list.places came_are
 
-    touched_new : AreTouched (firsts (classes compare ys)) came news
-    touched_new = subst (λ bs. AreTouched bs came news) (shown_is k ys stands) touched
+    pub came_changed : length ys ≤ 2147483647 → AreChangedIn k.firsts.shown came
+    came_changed few = subst (λ bs. AreChangedIn bs came) (sym (shown_is k ys stands)) (changed_in compare o ys (sides d).new new_long came came_ranked few)
 
-    pub news_found : AreNews ys news
-    news_found = all_within compare o ys (sides d).new new_long came came_ranked (is_kept_new (pairs d)) (keeps_new d) news touched_new
+    module _ (news : List Touched) (touched : AreTouched k.firsts.shown came news) where
+      touched_new : AreTouched (firsts (classes compare ys)) came news
+      touched_new = subst (λ bs. AreTouched bs came news) (shown_is k ys stands) touched
 
-    pub few_news : length news ≤ fresh_len d
-    few_news =
-        omega (arith, touched.few, length_permutation _ came came_are.are, length-map (changed_of 0 (sides d).new) (rank_of k.list.tree.places), fresh_changed d 0 0)
+      pub news_found : AreNews ys news
+      news_found = all_within compare o ys (sides d).new new_long came came_ranked (is_kept_new (pairs d)) (keeps_new d) news touched_new
 
-    pub sides_told : AreSides compare xs ys d (met_olds compare xs ys olds news) (met_news compare xs ys olds news)
-    sides_told =
-        sides_made compare o d xs leads olds news ys (leads_back_to d ys leads_to).1 (record {
-          olds_are = all_classes compare o xs (sides d).old old_long t.gone t.gone_are (is_kept_old (pairs d)) (keeps_old d) olds touched_old;
-          news_are = all_classes compare o ys (sides d).new new_long came came_ranked (is_kept_new (pairs d)) (keeps_new d) news touched_new;
-          other_olds = all_others compare o xs (sides d).old old_long t.gone t.gone_are (is_kept_old (pairs d)) (keeps_old d) olds touched_old;
-          other_news = all_others compare o ys (sides d).new new_long came came_ranked (is_kept_new (pairs d)) (keeps_new d) news touched_new;
-          olds_rise = touched_old.rise;
-          news_rise = touched_new.rise;
-        })
+      pub few_news : length news ≤ fresh_len d
+      few_news =
+          omega (arith, touched.few, length_permutation _ came came_are.are, length-map (changed_of 0 (sides d).new) (rank_of k.list.tree.places), fresh_changed d 0 0)
+
+      pub sides_told : AreSides compare xs ys d (met_olds compare xs ys olds news) (met_news compare xs ys olds news)
+      sides_told =
+          sides_made compare o d xs leads olds news ys (leads_back_to d ys leads_to).1 (record {
+            olds_are = all_classes compare o xs (sides d).old old_long t.gone t.gone_are (is_kept_old (pairs d)) (keeps_old d) olds touched_old;
+            news_are = all_classes compare o ys (sides d).new new_long came came_ranked (is_kept_new (pairs d)) (keeps_new d) news touched_new;
+            other_olds = all_others compare o xs (sides d).old old_long t.gone t.gone_are (is_kept_old (pairs d)) (keeps_old d) olds touched_old;
+            other_news = all_others compare o ys (sides d).new new_long came came_ranked (is_kept_new (pairs d)) (keeps_new d) news touched_new;
+            olds_rise = touched_old.rise;
+            news_rise = touched_new.rise;
+          })

@@ -1,11 +1,11 @@
 -- What the touched classes of a list are, by its classes.
-use Rattle.std.proofs.Common.{◌≡◌, ◌≢◌, ◌∙◌, ◌⊎◌, ℕ, zero, suc, ◌+◌, ◌<◌, ◌≤◌, ◌==◌, ◌&&◌, Bool, true, false, List, [], ◌∷◌, length, map, take, refl, ap, sym, subst, arith, inl, inr}
-use Rattle.std.specs.Prelude.{not, Option, Some, None, slice_get}
+use Rattle.std.proofs.Common.{◌≡◌, ◌≢◌, ◌∙◌, ℕ, zero, suc, ◌<◌, ◌≤◌, ◌&&◌, Bool, true, false, List, [], ◌∷◌, length, map, refl, ap, sym, subst, arith, inl, inr}
+use Rattle.std.specs.Prelude.{Option, Some, None, slice_get}
 use Rattle.std.specs.Option.{is_some}
 use Rattle.std.specs.List.{list_all, AllByRecursion as Each}
 use Rattle.std.specs.Cmp.{IsTotalOrder, tied_back}
 use Rattle.std.specs.declared.cmp.Ordering.TheVariants.{Less, Equal}
-use Rattle.std.proofs.lemmas.Bool.{cases_order, cases_eq, cases_Bool, eqb-true, eq-eqb}
+use Rattle.std.proofs.lemmas.Bool.{cases_order, cases_Bool, eqb-true}
 use Rattle.std.proofs.lemmas.Option.{slice_get_within}
 use Rattle.std.proofs.lemmas.List.{length-map, length-append}
 use Rattle.spec_sorting.specs.Tree.{Tree}
@@ -17,13 +17,13 @@ use Rattle.spec_sorting.proofs.Arrangements.{arrangement_is, before_cases}
 use Rattle.spec_classes.specs.Classes.{Class, first_of, classes}
 use Rattle.spec_classes.specs.Members.{joined, first_marks, firsts, IsClass, AreClasses}
 use Rattle.spec_classes.proofs.Members.{are_classes}
-use Rattle.spec_classes.proofs.Keys.{IsMember, member_is}
+use Rattle.spec_classes.proofs.Keys.{member_is}
 use Rattle.gl_arranged.specs.Changes.{AreRanked}
 use Rattle.gl_arranged.specs.declared.changed.Ranked.{Ranked}
 use Rattle.gl_classes.specs.declared.touched.Touched.{Touched}
 use Rattle.gl_classes.specs.Touching.{class_of, places, IsPlain, IsTouched, AreTouched}
-use Rattle.gl_classes.proofs.Positions.{IsPlaced, placed, HasPlace, place_of}
-use Rattle.gl_classes.proofs.ChangedPlaces.{IsChanged, StandsThere, ranked_there, changed_there}
+use Rattle.gl_classes.proofs.Positions.{IsPlaced, placed, place_of}
+use Rattle.gl_classes.proofs.ChangedPlaces.{StandsThere, ranked_there, changed_there}
 
 some_same : {X : Type 0} (x y : X) → Some x ≡ Some y → x ≡ y
 some_same x y e = cc

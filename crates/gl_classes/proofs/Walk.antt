@@ -1,12 +1,12 @@
 -- How the touched keys are told from the touched classes of both lists, step by step.
-use Rattle.std.proofs.Common.{◌≡◌, ◌∙◌, ◌⊎◌, ℕ, zero, suc, ◌+◌, ◌<◌, ◌≤◌, ◌&&◌, Bool, true, false, List, [], ◌∷◌, length, map, drop, refl, ap, sym, subst, arith, inl, inr}
+use Rattle.std.proofs.Common.{◌≡◌, ◌∙◌, ◌⊎◌, ℕ, zero, suc, ◌+◌, ◌<◌, ◌≤◌, ◌&&◌, Bool, true, false, List, [], ◌∷◌, length, drop, refl, ap, sym, subst, arith, inl, inr}
 use Rattle.std.specs.Prelude.{◌↔◌, Option, Some, None, slice_get}
 use Rattle.std.specs.List.{list_any, list_all, AllByRecursion as Each}
-use Rattle.std.specs.Cmp.{IsTotalOrder, alike_right, tied_back, tied_itself}
+use Rattle.std.specs.Cmp.{IsTotalOrder, alike_right, tied_itself}
 use Rattle.std.specs.Ordering.{ordering_reverse}
 use Rattle.std.specs.declared.cmp.Ordering.{Ordering}
 use Rattle.std.specs.declared.cmp.Ordering.TheVariants.{Less, Equal, Greater}
-use Rattle.std.proofs.lemmas.Bool.{cases_order, cases_lt, cases_Bool}
+use Rattle.std.proofs.lemmas.Bool.{cases_order, cases_lt}
 use Rattle.std.proofs.lemmas.List.{drop_all}
 use Rattle.std.proofs.lemmas.Option.{slice_get_within}
 use Rattle.spec_sorting.specs.Tree.{Tree}
@@ -18,12 +18,9 @@ use Rattle.spec_sorting.specs.Arrangement.{Comparison}
 use Rattle.spec_sorting.proofs.SortedPositions.{In}
 use Rattle.spec_classes.specs.Classes.{Class, first_of, classes, is_kept_old, is_kept_new, keeps_members}
 use Rattle.spec_classes.specs.Members.{KeysRise}
-use Rattle.spec_classes.specs.Meetings.{goes, comes, meets, of_key, meetings_by}
-use Rattle.spec_classes.specs.Slots.{read_after, old_class, new_class, slots_from}
-use Rattle.spec_classes.specs.declared.First.{First}
-use Rattle.spec_classes.specs.declared.First.TheVariants.{Gone, Plain}
-use Rattle.spec_classes.specs.declared.OldClass.{OldClass}
-use Rattle.spec_classes.specs.declared.NewClass.{NewClass}
+use Rattle.spec_classes.specs.Meetings.{comes, meets, of_key, meetings_by}
+use Rattle.spec_classes.specs.Slots.{slots_from}
+use Rattle.spec_classes.specs.declared.First.TheVariants.{Gone}
 use Rattle.spec_classes.specs.declared.Slot.{Slot}
 use Rattle.spec_classes.proofs.Members.{are_classes}
 use Rattle.spec_classes.proofs.Keys.{key_tied, IsWhole, classes_whole}
@@ -31,10 +28,10 @@ use Rattle.spec_classes.proofs.Kept.{old_meets, new_meets}
 use Rattle.spec_classes.proofs.Steps.{ArePassed, goes_next, comes_last, comes_next, key_next, meets_next, passed_goes, passed_comes, passed_meets}
 use Rattle.gl_classes.specs.declared.touched.Touched.{Touched}
 use Rattle.gl_classes.specs.declared.slots.Cursor.{Cursor}
-use Rattle.gl_classes.specs.Sides.{IsOld, IsNew, AreSides, IsAt, slots_left, next_at, alone, AtTouched}
-use Rattle.gl_classes.proofs.BothSides.{each_at, some_same, Has, has_one}
+use Rattle.gl_classes.specs.Sides.{IsOld, IsNew, AreSides, IsAt, slots_left, next_at, alone}
+use Rattle.gl_classes.proofs.BothSides.{each_at, some_same, has_one}
 use Rattle.gl_classes.proofs.FoundClasses.{class_list}
-use Rattle.gl_classes.proofs.TouchedLists.{get_here, AreToldTo, next_ahead, is_free, told_touched, told_free, next_free, IsNextAt, next_is, next_here, IsAlone, alone_is, stays_is}
+use Rattle.gl_classes.proofs.TouchedLists.{get_here, AreToldTo, is_free, told_touched, told_free, next_free, IsNextAt, next_is, stays_is}
 
 true_false : true ≡ false → ⊥
 true_false e = absurd cc

@@ -1,5 +1,5 @@
 -- What one step of telling the touched keys does.
-use Rattle.std.proofs.Common.{◌≡◌, ◌∙◌, ◌⊎◌, ℕ, zero, suc, ◌+◌, ◌-◌, ◌<◌, ◌≤◌, ◌==◌, Bool, true, false, List, [], ◌∷◌, ◌++◌, length, drop, map, refl, ap, sym, subst, arith, inl, inr}
+use Rattle.std.proofs.Common.{◌≡◌, ◌∙◌, ℕ, suc, ◌+◌, ◌-◌, ◌<◌, ◌≤◌, Bool, true, false, List, [], ◌∷◌, length, drop, refl, ap, sym, subst, arith, inl, inr}
 use Rattle.std.specs.Prelude.{Option, Some, None, slice_get, option_map, unwrap_or, if◌then◌else◌}
 use Rattle.std.specs.List.{list_all, AllByRecursion as Each}
 use Rattle.std.specs.Cmp.{IsTotalOrder, tied_back}
@@ -11,7 +11,7 @@ use Rattle.spec_sorting.specs.Tree.{Tree}
 use Rattle.spec_sorting.specs.Delta.{Delta}
 use Rattle.spec_sorting.specs.Piece.{old_len}
 use Rattle.spec_sorting.specs.Pairs.{pairs}
-use Rattle.spec_sorting.specs.Leads.{LeadsTo, LeadsFrom, applied, undone}
+use Rattle.spec_sorting.specs.Leads.{LeadsFrom, applied, undone}
 use Rattle.spec_sorting.specs.Source.{element_at}
 use Rattle.spec_sorting.specs.Arrangement.{Comparison, arrangement}
 use Rattle.spec_sorting.proofs.Arrangements.{arrangement_is}
@@ -24,7 +24,6 @@ use Rattle.spec_classes.specs.Slots.{read_after, slots, slots_from}
 use Rattle.spec_classes.specs.Told.{is_still}
 use Rattle.spec_classes.specs.declared.First.{First}
 use Rattle.spec_classes.specs.declared.First.TheVariants.{Gone, Plain}
-use Rattle.spec_classes.specs.declared.Slot.{Slot}
 use Rattle.spec_classes.proofs.Members.{are_classes}
 use Rattle.spec_classes.proofs.Keys.{key_tied, IsWhole, member_is}
 use Rattle.spec_classes.proofs.PlainPairs.{partner_of_old, partner_of_new, plain_one, plain_order, kept_by_new, still_plain}
@@ -33,7 +32,7 @@ use Rattle.gl_arranged.proofs.Sortings.{order_cmp_total}
 use Rattle.gl_classes.specs.declared.touched.Touched.{Touched}
 use Rattle.gl_classes.specs.declared.slots.Cursor.{Cursor}
 use Rattle.gl_classes.specs.Kept.{Kept}
-use Rattle.gl_classes.specs.Sides.{IsOld, IsNew, IsPlainNew, AreSides, IsAt, slots_left, next_at, alone, AtTouched, Walks, HasMore, gap_to, gap, IsFewer, ArePassed, IsTold, AreMet, how_many, at_place, plain_first, IsPlaceIn, HasPlain, old_first}
+use Rattle.gl_classes.specs.Sides.{IsOld, IsNew, IsPlainNew, AreSides, IsAt, slots_left, next_at, alone, Walks, HasMore, gap_to, gap, IsFewer, ArePassed, IsTold, AreMet, how_many, at_place, plain_first, IsPlaceIn, HasPlain, old_first}
 use Rattle.gl_classes.proofs.BothSides.{each_at, some_same}
 use Rattle.gl_classes.proofs.Gaps.{some_number, none_some, fewer_low, fewer_low_too, fewer_is, is_gap}
 use Rattle.gl_classes.proofs.TouchedLists.{get_here, AreToldTo, next_ahead, told_touched, told_free, next_free, IsNextAt, next_is, next_here, alone_is}

@@ -1,5 +1,5 @@
 -- The edits of the marks of the first members that go with the steps of an arrangement.
-use Rattle.std.specs.Prelude.{◌++◌, ◌<◌, Bool, true, false, not, List, [], ◌∷◌, if◌then◌else◌}
+use Rattle.std.specs.Prelude.{◌++◌, Bool, true, false, not, List, [], ◌∷◌, if◌then◌else◌}
 use Rattle.gl_kernel.specs.declared.log_step.LogStep.{LogStep}
 use Rattle.gl_kernel.specs.declared.log_step.LogStep.TheVariants.{Insert, Remove, Set}
 use Rattle.gl_arranged.specs.declared.step.Step.{Step}

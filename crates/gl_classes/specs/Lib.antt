@@ -5,4 +5,9 @@ pub mod Firsts
 pub mod Finding
 pub mod Sides
 pub mod Unmet
+pub mod Follows
+pub mod InTurn
+pub mod Spanned
+pub use Rattle.gl_arranged.specs.Sorting
+pub use Rattle.gl_arranged.specs.Changes
 pub use Rattle.gl_arranged.specs.OldValues

@@ -1,5 +1,5 @@
 -- The touched classes of both lists, and how far they were told.
-use Rattle.std.specs.Prelude.{◌≡◌, ◌==◌, ◌∷◌, ◌⊎◌, ◌≤◌, ◌<◌, ◌+◌, ◌-◌, ◌↔◌, ℕ, Bool, true, false, List, length, map, drop, if◌then◌else◌, Option, Some, None, slice_get, unwrap_or}
+use Rattle.std.specs.Prelude.{◌≡◌, ◌==◌, ◌∷◌, ◌⊎◌, ◌≤◌, ◌<◌, ◌+◌, ◌-◌, ◌↔◌, ℕ, true, false, List, length, map, drop, if◌then◌else◌, Option, Some, None, slice_get, unwrap_or}
 use Rattle.std.specs.List.{list_any, list_all, AllByRecursion}
 use Rattle.spec_sorting.specs.Tree.{Tree}
 use Rattle.spec_sorting.specs.Delta.{Delta}
@@ -13,7 +13,7 @@ use Rattle.spec_classes.specs.declared.First.{First}
 use Rattle.spec_classes.specs.declared.First.TheVariants.{Gone, Plain}
 use Rattle.spec_classes.specs.declared.Slot.{Slot}
 use Rattle.spec_classes.specs.Meetings.{of_key, meetings_by}
-use Rattle.spec_classes.specs.Slots.{read_after, slots, slots_from}
+use Rattle.spec_classes.specs.Slots.{read_after, slots_from}
 use Rattle.gl_classes.specs.declared.touched.Touched.{Touched}
 use Rattle.gl_classes.specs.declared.slots.Cursor.{Cursor}
 use Rattle.gl_arranged.specs.Sorting.{order_cmp}

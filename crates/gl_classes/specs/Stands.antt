@@ -1,9 +1,8 @@
 -- What the classes of a list stand for, and what their undos give back.
-use Rattle.std.specs.Prelude.{◌≡◌, ⊤, Bool, not, List, map}
+use Rattle.std.specs.Prelude.{◌≡◌, ◌≤◌, ⊤, ℕ, Bool, not, List, map}
 use Rattle.spec_sorting.specs.Tree.{Tree}
 use Rattle.gl_barcode.specs.Bars.{stretch_count}
 use Rattle.gl_kernel.specs.Edits.{played, CanPlay}
-use Rattle.gl_kernel.specs.Results.{LeadsBack}
 use Rattle.gl_arranged.specs.Stands as arranged
 use Rattle.gl_classes.specs.declared.classes.ClassesUndo.{ClassesUndo}
 use Rattle.gl_classes.specs.declared.classes.ClassesUndo.TheVariants.{Edits, Whole}
@@ -37,6 +36,29 @@ CanRetreat (Edits list log) k =
     × CanPlay stretch_count k.firsts.room log.items k.firsts.shown
 CanRetreat (Whole whole) k = ⊤
 
--- the undo is of the last change
-abbrev pub IsUndo : ClassesUndo → Kept → Kept → Type 0
-IsUndo undo old new = LeadsBack (before undo new) (contents old) (CanRetreat undo new)
+-- how much there is room for
+pub record Rooms : Type 0 where
+  pub list : ℕ
+  pub firsts : ℕ
+
+abbrev pub rooms : Kept → Rooms
+rooms k = record { list = k.list.tree.room; firsts = k.firsts.room }
+
+-- the one is no more than the other
+pub record AreNoMore (less more : Rooms) : Type 0 where
+  pub list : less.list ≤ more.list
+  pub firsts : less.firsts ≤ more.firsts
+
+-- how much there is room for once an undo was taken
+abbrev pub rooms_back : ClassesUndo → Kept → Rooms
+rooms_back (Edits list log) k = record {
+  list = (arranged.before list k.list).tree.room;
+  firsts = k.firsts.room;
+}
+rooms_back (Whole whole) k = rooms whole
+
+-- the undo is of the last change: it leads back to what there was, in no less room, and can be made
+pub record IsUndo (undo : ClassesUndo) (old new : Kept) : Type 0 where
+  pub back : before undo new ≡ contents old
+  pub rooms : AreNoMore (rooms old) (rooms_back undo new)
+  pub can : CanRetreat undo new

@@ -7,14 +7,17 @@
 mod classes;
 mod firsts;
 mod meeting;
+mod members;
 mod slots;
+mod telling;
 mod touched;
 
-pub use classes::{Classes, ClassesUndo};
+pub use classes::{Classes, ClassesUndo, Followed};
 pub use firsts::edits;
 pub use gl_arranged::old_value;
 pub use gl_value::Memory;
 pub use meeting::meet;
 pub use slots::told_slots;
 pub use spec_classes::{First, NewClass, OldClass, Slot};
+pub use telling::Reached;
 pub use touched::{Touched, find_touched};

@@ -1,4 +1,4 @@
-use Rattle.std.proofs.Common.{◌≡◌, ◌∙◌, ◌+◌, ◌*◌, ◌^◌, ◌<◌, ◌≤◌, ◌++◌, ℕ, suc, List, [], ◌∷◌, Some, None, false, length, map, take, drop, refl, sym, ap, subst, arith}
+use Rattle.std.proofs.Common.{◌≡◌, ◌∙◌, ◌+◌, ◌^◌, ◌<◌, ◌++◌, suc, [], ◌∷◌, Some, None, false, length, map, take, drop, refl, sym, ap, subst, arith}
 use Rattle.std.specs.Prelude.{slice_set}
 use Rattle.std.specs.List.{list_any, slice_get, slice_index_or}
 use Rattle.std.proofs.lemmas.List.{length-map}
@@ -6,7 +6,7 @@ use Rattle.std.proofs.lemmas.Option.{slice_get-get_or}
 use Rattle.spec_sorting.specs.Leads.{undone}
 use Rattle.gl_arranged.specs.Sorting.{order_cmp}
 use Rattle.gl_classes.specs.declared.touched.Touched.{Touched}
-use Rattle.gl_classes.specs.Finding.{AreOlds, meets, stays_if, met_one, met_new, met_olds, met_news}
+use Rattle.gl_classes.specs.Finding.{AreOlds, meets, stays_if, met_one, met_new, met_olds}
 use Rattle.gl_classes.proofs.Meetings.{all_still, olds_with, olds_more, new_more, take_more, set_next, get_next, read_touched, counted_more, no_steps}
 use Rattle.gl_classes.proofs.meeting.meet.Goals as goal
 

@@ -1,4 +1,4 @@
-use Rattle.std.proofs.Common.{◌≡◌, length, refl}
+use Rattle.std.proofs.Common.{length, refl}
 use Rattle.std.proofs.lemmas.Option.{slice_get-get_or}
 use Rattle.spec_sorting.specs.Leads.{undone}
 use Rattle.gl_arranged.specs.Sorting.{order_cmp}

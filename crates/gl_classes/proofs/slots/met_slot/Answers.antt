@@ -1,5 +1,5 @@
-use Rattle.std.proofs.Common.{◌≡◌, ◌∙◌, ◌+◌, ◌<◌, ◌≤◌, length, refl, ap, sym, arith}
-use Rattle.std.specs.Prelude.{Some, None, slice_get, option_map}
+use Rattle.std.proofs.Common.{◌≡◌, ◌∙◌, ◌+◌, ap, sym, arith}
+use Rattle.std.specs.Prelude.{Some, None, option_map}
 use Rattle.std.proofs.lemmas.Option.{slice_get_within}
 use Rattle.spec_sorting.specs.Leads.{undone}
 use Rattle.spec_classes.specs.Classes.{first_of, classes}

@@ -1,6 +1,5 @@
-use Rattle.std.proofs.Common.{◌≡◌, ◌∙◌, ◌+◌, ◌<◌, ◌≤◌, suc, length, refl, ap, sym, arith}
-use Rattle.std.specs.Prelude.{Some, None}
-use Rattle.gl_classes.specs.Sides.{next_at, alone}
+use Rattle.std.proofs.Common.{◌∙◌, suc, refl, ap, sym, arith}
+use Rattle.gl_classes.specs.Sides.{alone}
 use Rattle.gl_classes.specs.declared.slots.Cursor.{Cursor}
 use Rattle.gl_classes.proofs.WalkSteps.{told_goes, told_comes, few_old}
 use Rattle.gl_classes.proofs.slots.next_slot.Goals as goal

@@ -1,4 +1,4 @@
-use Rattle.std.proofs.Common.{◌≡◌, ◌+◌, ◌≤◌, length, refl, arith}
+use Rattle.std.proofs.Common.{◌+◌, refl, arith}
 use Rattle.gl_classes.specs.declared.slots.Cursor.{Cursor}
 use Rattle.gl_classes.proofs.WalkSteps.{passed, few_old}
 use Rattle.gl_classes.proofs.slots.pass.Goals as goal

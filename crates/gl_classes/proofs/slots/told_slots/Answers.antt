@@ -1,4 +1,4 @@
-use Rattle.std.proofs.Common.{◌≡◌, ◌∙◌, ◌++◌, ◌<◌, ◌≤◌, List, [], ◌∷◌, length, refl, ap, sym, arith}
+use Rattle.std.proofs.Common.{◌≡◌, ◌∙◌, ◌++◌, List, [], ◌∷◌, refl, ap, sym, arith}
 use Rattle.spec_sorting.specs.Leads.{undone}
 use Rattle.spec_classes.specs.declared.Slot.{Slot}
 use Rattle.gl_arranged.specs.Sorting.{order_cmp}

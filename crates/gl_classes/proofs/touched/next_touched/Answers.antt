@@ -1,7 +1,7 @@
-use Rattle.std.proofs.Common.{◌≡◌, ◌≢◌, ◌∙◌, ◌+◌, ◌-◌, ◌<◌, ◌≤◌, ℕ, suc, List, Option, None, Some, length, take, refl, sym, ap, subst, arith}
+use Rattle.std.proofs.Common.{◌≡◌, ◌∙◌, ◌+◌, ◌-◌, ◌<◌, ℕ, suc, List, Option, None, length, take, refl, sym, ap, subst, arith}
 use Rattle.std.specs.Prelude.{Bool}
 use Rattle.std.specs.Option.{IsSome}
-use Rattle.std.specs.List.{slice_get, slice_index_or}
+use Rattle.std.specs.List.{slice_index_or}
 use Rattle.std.proofs.lemmas.Option.{slice_get-get_or}
 use Rattle.gl_barcode.specs.Bars.{count_shown, IsKthShown}
 use Rattle.gl_arranged.specs.declared.changed.Ranked.{Ranked}

@@ -1,6 +1,4 @@
-use Rattle.std.proofs.Common.{◌≡◌, ◌∙◌, ◌+◌, ◌-◌, suc, Some, refl, sym, ap, arith}
-use Rattle.std.specs.Prelude.{nat_eq}
-use Rattle.std.specs.List.{slice_get}
+use Rattle.std.proofs.Common.{◌∙◌, ap, arith}
 use Rattle.std.proofs.lemmas.Option.{slice_get-get_or}
 use Rattle.gl_arranged.specs.declared.changed.Ranked.{Ranked}
 use Rattle.gl_classes.proofs.Runs.{run_more, stops_at, stops_end, read_is}
