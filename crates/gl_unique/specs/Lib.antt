@@ -1,0 +1,3 @@
+pub use Rattle.gl_classes.specs.Stands
+pub mod Reading
+pub mod Replacing
