@@ -1,0 +1,5 @@
+pub mod Rooms
+pub mod Groups
+pub mod Turns
+pub mod Laws
+pub mod Replacement
