@@ -20,6 +20,8 @@ fn is_built_kind(kind: &ListKind) -> bool
         ListKind::Source { .. } => true,
         ListKind::Filter { .. } => true,
         ListKind::Sorted { .. } => true,
+        ListKind::Unique { .. } => true,
+        ListKind::Grouping { .. } => true,
         ListKind::Range { .. } => true,
         ListKind::Function { .. } => true,
         ListKind::Collection { .. } => true,

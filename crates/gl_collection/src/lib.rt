@@ -9,3 +9,4 @@ mod follow;
 
 pub use collection::{Collection, CollectionUndo};
 pub use gl_delta::KernelFault;
+pub use gl_lang::Kids;

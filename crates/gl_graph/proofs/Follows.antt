@@ -29,7 +29,7 @@ following start list shows c deltas input old new d out undo other told delta st
       stands = stands;
       own_is = ap (over input) view;
       limit = limit;
-      undo = record { back = ap (of_over input) is.back; room = record { kept = is.room; members = omega arith }; can = is.can };
+      undo = record { back = ap (of_over input) is.back; room = is.room; can = is.can };
     };
   },
 )

@@ -1,5 +1,5 @@
 -- A composite follows what is told of its members.
-use Rattle.std.proofs.Common.{◌≡◌, ◌≢◌, ◌∙◌, ◌<◌, ◌≤◌, ◌↔◌, ℕ, List, [], ◌∷◌, length, map, refl, ap, sym, subst, inr}
+use Rattle.std.proofs.Common.{◌≡◌, ◌≢◌, ◌∙◌, ◌<◌, ◌≤◌, ◌↔◌, ℕ, List, [], ◌∷◌, length, map, refl, ap, sym, subst, inr, arith}
 use Rattle.std.specs.Prelude.{slice_index_or, Option, Some, None, Result, Err}
 use Rattle.std.specs.List.{All, Contains}
 use Rattle.std.proofs.lemmas.List.Elements.{All-contains}
@@ -105,7 +105,7 @@ followed start list shows c deltas needed old new out undo other told h = inr (
       stands = h.stands;
       own_is = ap (composite needed) h.lists;
       limit = ap (λ (n : ℕ). Some n) h.limit;
-      undo = record { back = ap (of_composite needed) h.undo_is.back; room = record { kept = h.room; members = h.list_room }; can = h.undo_is.can };
+      undo = record { back = ap (of_composite needed) h.undo_is.back; room = record { kept = h.room; members = h.list_room; sorted = omega arith; firsts = omega arith }; can = h.undo_is.can };
     };
   },
 )

@@ -3,6 +3,10 @@ use Rattle.std.proofs.Common.{◌≡◌, ◌∙◌, ℕ, ◌≤◌, List, refl, 
 use Rattle.spec_states.specs.Tree.{Tree}
 use Rattle.gl_source.proofs.Play.{can_play_more}
 use Rattle.gl_kernels.proofs.SortedRooms as sorted
+use Rattle.gl_kernels.specs.UniqueStands.{Rooms, AreNoMore}
+use Rattle.gl_kernels.specs.GroupingStands as grouped
+use Rattle.gl_kernels.proofs.UniqueRooms as unique
+use Rattle.gl_kernels.proofs.GroupingRooms as grouping
 use Rattle.std.proofs.lemmas.List.Elements.{All-weaker}
 use Rattle.gl_composite.specs.Stands as composite_stands
 use Rattle.gl_composite.specs.Kept as composite_kept
@@ -17,116 +21,124 @@ use Rattle.gl_graph.specs.declared.keeps.Keeps.TheVariants.{Source, Over, Compos
 use Rattle.gl_graph.specs.declared.keeps.KeepsUndo.{KeepsUndo}
 use Rattle.gl_graph.specs.declared.keeps.KeepsUndo.TheVariants as u
 use Rattle.gl_graph.specs.Derived as derived
-use Rattle.gl_graph.specs.Derived.{of_filter, of_sorted, of_range, of_function, of_collection, view_of_derived}
+use Rattle.gl_graph.specs.Derived.{of_filter, of_sorted, of_unique, of_grouping, of_range, of_function, of_collection, view_of_derived}
 use Rattle.spec_states.specs.State.{over}
 use Rattle.gl_graph.specs.Nodes.{own_of, OnInput, AreAmong, StandsFor}
 use Rattle.gl_graph.specs.Graph.{IsLimit, IsLimited}
-use Rattle.gl_graph.specs.Room.{Room, IsNoMore}
+use Rattle.gl_graph.specs.Room.{Room, room, sorted_room, classes_room, IsNoMore}
+use Rattle.gl_graph.proofs.NoMore.{no_more}
 use Rattle.gl_graph.specs.Undos.{Contents, of_source, of_over, of_composite, contents, room_of, room_back, before, CanRetreat}
 
+-- how much classes have room for
+abbrev classes_rooms : Room → Rooms
+classes_rooms r = record { list = r.sorted; firsts = r.firsts }
+
+abbrev grouping_rooms : Room → grouped.Rooms
+grouping_rooms r = record { classes = classes_rooms r; groups = r.kept }
+
 -- the list over one input of these contents that has so much room
-abbrev derived_with : ℕ → derived.Contents → Derived
-derived_with room (of_filter c) = d.Filter (record { matcher = c.matcher; shown = c.shown; room = room })
-derived_with room (of_sorted c) = d.Sorted (sorted.with_room room c)
-derived_with room (of_range c) = d.Range c
-derived_with room (of_function c) = d.Function (record { func = c.func; values = c.values; room = room })
-derived_with room (of_collection c) = d.Collection (record { kids = c.kids; limit = c.limit; lens = c.lens; room = room })
+abbrev derived_with : Room → derived.Contents → Derived
+derived_with r (of_filter c) = d.Filter (record { matcher = c.matcher; shown = c.shown; room = r.kept })
+derived_with r (of_sorted c) = d.Sorted (sorted.with_room r.sorted c)
+derived_with r (of_unique c) = d.Unique (unique.with_rooms (classes_rooms r) c)
+derived_with r (of_grouping c) = d.Grouping (grouping.with_rooms (grouping_rooms r) c)
+derived_with r (of_range c) = d.Range c
+derived_with r (of_function c) = d.Function (record { func = c.func; values = c.values; room = r.kept })
+derived_with r (of_collection c) = d.Collection (record { kids = c.kids; limit = c.limit; lens = c.lens; room = r.kept })
 
 derived_own : (o : Derived) → derived_with (derived.room_of o) (derived.contents o) ≡ o
 derived_own (d.Filter k) = refl
 derived_own (d.Sorted k) = refl
+derived_own (d.Unique k) = refl
+derived_own (d.Grouping k) = refl
 derived_own (d.Range k) = refl
 derived_own (d.Function k) = refl
 derived_own (d.Collection k) = refl
 
 -- what holds whatever the room
-derived_view : (r s : ℕ) (c : derived.Contents) → view_of_derived (derived_with r c) ≡ view_of_derived (derived_with s c)
+derived_view : (r s : Room) (c : derived.Contents) → view_of_derived (derived_with r c) ≡ view_of_derived (derived_with s c)
 derived_view r s (of_filter c) = refl
 derived_view r s (of_sorted c) = refl
+derived_view r s (of_unique c) = refl
+derived_view r s (of_grouping c) = refl
 derived_view r s (of_range c) = refl
 derived_view r s (of_function c) = refl
 derived_view r s (of_collection c) = refl
 
-derived_stands : (xs : List Tree) (r s : ℕ) (c : derived.Contents) → derived.StandsFor (derived_with r c) xs → derived.StandsFor (derived_with s c) xs
+derived_stands : (xs : List Tree) (r s : Room) (c : derived.Contents) → derived.StandsFor (derived_with r c) xs → derived.StandsFor (derived_with s c) xs
 derived_stands xs r s (of_filter c) h = h
 derived_stands xs r s (of_sorted c) h = record { places = h.places; marks = h.marks }
+derived_stands xs r s (of_unique c) h = unique.stands_same (classes_rooms r) (classes_rooms s) c xs h
+derived_stands xs r s (of_grouping c) h = grouping.stands_same (grouping_rooms r) (grouping_rooms s) c xs h
 derived_stands xs r s (of_range c) h = h
 derived_stands xs r s (of_function c) h = h
 derived_stands xs r s (of_collection c) h = h
 
-derived_limit : (r s : ℕ) (c : derived.Contents) → derived.limit_of (derived_with r c) ≡ derived.limit_of (derived_with s c)
+derived_limit : (r s : Room) (c : derived.Contents) → derived.limit_of (derived_with r c) ≡ derived.limit_of (derived_with s c)
 derived_limit r s (of_filter c) = refl
 derived_limit r s (of_sorted c) = refl
+derived_limit r s (of_unique c) = refl
+derived_limit r s (of_grouping c) = refl
 derived_limit r s (of_range c) = refl
 derived_limit r s (of_function c) = refl
 derived_limit r s (of_collection c) = refl
 
 -- an undo makes the same of it; one of another kind makes nothing of it
-derived_before : (undo : DerivedUndo) (r s : ℕ) (c : derived.Contents) → derived.before undo (derived_with r c) ≡ derived.before undo (derived_with s c)
+derived_before : (undo : DerivedUndo) (r s : Room) (c : derived.Contents) → derived.before undo (derived_with r c) ≡ derived.before undo (derived_with s c)
 derived_before (du.Filter undo) r s (of_filter c) = refl
-derived_before (du.Filter undo) r s (of_sorted c) = refl
-derived_before (du.Filter undo) r s (of_range c) = refl
-derived_before (du.Filter undo) r s (of_function c) = refl
-derived_before (du.Filter undo) r s (of_collection c) = refl
-derived_before (du.Sorted undo) r s (of_filter c) = refl
-derived_before (du.Sorted undo) r s (of_sorted c) = ap of_sorted (sorted.before_same undo r s c)
-derived_before (du.Sorted undo) r s (of_range c) = refl
-derived_before (du.Sorted undo) r s (of_function c) = refl
-derived_before (du.Sorted undo) r s (of_collection c) = refl
-derived_before (du.Range undo) r s (of_filter c) = refl
-derived_before (du.Range undo) r s (of_sorted c) = refl
+derived_before (du.Sorted undo) r s (of_sorted c) = ap of_sorted (sorted.before_same undo r.sorted s.sorted c)
+derived_before (du.Unique undo) r s (of_unique c) = ap of_unique (unique.before_same undo (classes_rooms r) (classes_rooms s) c)
+derived_before (du.Grouping undo) r s (of_grouping c) = ap of_grouping (grouping.before_same undo (grouping_rooms r) (grouping_rooms s) c)
 derived_before (du.Range undo) r s (of_range c) = refl
-derived_before (du.Range undo) r s (of_function c) = refl
-derived_before (du.Range undo) r s (of_collection c) = refl
-derived_before (du.Function undo) r s (of_filter c) = refl
-derived_before (du.Function undo) r s (of_sorted c) = refl
-derived_before (du.Function undo) r s (of_range c) = refl
 derived_before (du.Function undo) r s (of_function c) = refl
-derived_before (du.Function undo) r s (of_collection c) = refl
-derived_before (du.Collection undo) r s (of_filter c) = refl
-derived_before (du.Collection undo) r s (of_sorted c) = refl
-derived_before (du.Collection undo) r s (of_range c) = refl
-derived_before (du.Collection undo) r s (of_function c) = refl
 derived_before (du.Collection undo) r s (of_collection c) = refl
+derived_before undo r s c = refl
 
 -- it can be taken in more room, and then leaves no less
 record IsRoomier (undo : DerivedUndo) (less more : Derived) : Type 0 where
   pub can : derived.CanRetreat undo more
-  pub room : derived.room_back undo less ≤ derived.room_back undo more
+  pub room : IsNoMore (derived.room_back undo less) (derived.room_back undo more)
 
-derived_in_more : (undo : DerivedUndo) (r s : ℕ) (c : derived.Contents) → r ≤ s → derived.CanRetreat undo (derived_with r c)
+kept_alone : (r s : Room) → IsNoMore r s → IsNoMore (room r.kept) (room s.kept)
+kept_alone r s h = record { kept = h.kept; members = omega arith; sorted = omega arith; firsts = omega arith }
+
+sorted_alone : (less more : ℕ) → less ≤ more → IsNoMore (sorted_room less) (sorted_room more)
+sorted_alone less more h = record { kept = omega arith; members = omega arith; sorted = h; firsts = omega arith }
+
+classes_more : (r s : Room) → IsNoMore r s → AreNoMore (classes_rooms r) (classes_rooms s)
+classes_more r s h = record { list = h.sorted; firsts = h.firsts }
+
+grouping_more : (r s : Room) → IsNoMore r s → grouped.AreNoMore (grouping_rooms r) (grouping_rooms s)
+grouping_more r s h = record { classes = classes_more r s h; groups = h.kept }
+
+of_classes : (less more : ℕ) (r s : Rooms) → less ≤ more → AreNoMore r s
+    → IsNoMore (classes_room less r.list r.firsts) (classes_room more s.list s.firsts)
+of_classes less more r s h rooms = record { kept = h; members = omega arith; sorted = rooms.list; firsts = rooms.firsts }
+
+derived_in_more : (undo : DerivedUndo) (r s : Room) (c : derived.Contents) → IsNoMore r s → derived.CanRetreat undo (derived_with r c)
     → IsRoomier undo (derived_with r c) (derived_with s c)
-derived_in_more (du.Filter undo) r s (of_filter c) h can = record { can = can_play_more _ r s undo.log.items c.shown h can; room = h }
+derived_in_more (du.Filter undo) r s (of_filter c) h can = record { can = can_play_more _ r.kept s.kept undo.log.items c.shown h.kept can; room = kept_alone r s h }
 derived_in_more (du.Sorted undo) r s (of_sorted c) h can = record {
-  can = sorted.retreats_in_more undo r s c h can;
-  room = sorted.room_in_more undo r s c h;
+  can = sorted.retreats_in_more undo r.sorted s.sorted c h.sorted can;
+  room = sorted_alone _ _ (sorted.room_in_more undo r.sorted s.sorted c h.sorted);
 }
-derived_in_more (du.Range undo) r s (of_range c) h can = record { can = tt; room = omega arith }
-derived_in_more (du.Function undo) r s (of_function c) h can = record { can = can_play_more _ r s undo.log.items c.values h can; room = h }
+derived_in_more (du.Unique undo) r s (of_unique c) h can = record {
+  can = unique.retreats_in_more undo (classes_rooms r) (classes_rooms s) c (classes_more r s h) can;
+  room = of_classes 0 0 _ _ (omega arith) (unique.rooms_in_more undo (classes_rooms r) (classes_rooms s) c (classes_more r s h));
+}
+derived_in_more (du.Grouping undo) r s (of_grouping c) h can =
+    let more = grouping.rooms_in_more undo (grouping_rooms r) (grouping_rooms s) c (grouping_more r s h) in
+    record {
+      can = grouping.retreats_in_more undo (grouping_rooms r) (grouping_rooms s) c (grouping_more r s h) can;
+      room = of_classes _ _ _ _ more.groups more.classes;
+    }
+derived_in_more (du.Range undo) r s (of_range c) h can = record { can = tt; room = no_more _ }
+derived_in_more (du.Function undo) r s (of_function c) h can = record { can = can_play_more _ r.kept s.kept undo.log.items c.values h.kept can; room = kept_alone r s h }
 derived_in_more (du.Collection undo) r s (of_collection c) h can = record {
-  can = record { within = can.within; can = can_play_more _ r s undo.log.items c.lens h can.can };
-  room = h;
+  can = record { within = can.within; can = can_play_more _ r.kept s.kept undo.log.items c.lens h.kept can.can };
+  room = kept_alone r s h;
 }
-derived_in_more (du.Filter undo) r s (of_sorted c) h can = absurd can
-derived_in_more (du.Filter undo) r s (of_range c) h can = absurd can
-derived_in_more (du.Filter undo) r s (of_function c) h can = absurd can
-derived_in_more (du.Filter undo) r s (of_collection c) h can = absurd can
-derived_in_more (du.Sorted undo) r s (of_filter c) h can = absurd can
-derived_in_more (du.Sorted undo) r s (of_range c) h can = absurd can
-derived_in_more (du.Sorted undo) r s (of_function c) h can = absurd can
-derived_in_more (du.Sorted undo) r s (of_collection c) h can = absurd can
-derived_in_more (du.Range undo) r s (of_filter c) h can = absurd can
-derived_in_more (du.Range undo) r s (of_sorted c) h can = absurd can
-derived_in_more (du.Range undo) r s (of_function c) h can = absurd can
-derived_in_more (du.Range undo) r s (of_collection c) h can = absurd can
-derived_in_more (du.Function undo) r s (of_filter c) h can = absurd can
-derived_in_more (du.Function undo) r s (of_sorted c) h can = absurd can
-derived_in_more (du.Function undo) r s (of_range c) h can = absurd can
-derived_in_more (du.Function undo) r s (of_collection c) h can = absurd can
-derived_in_more (du.Collection undo) r s (of_filter c) h can = absurd can
-derived_in_more (du.Collection undo) r s (of_sorted c) h can = absurd can
-derived_in_more (du.Collection undo) r s (of_range c) h can = absurd can
-derived_in_more (du.Collection undo) r s (of_function c) h can = absurd can
+derived_in_more undo r s c h can = absurd can
 
 -- the composite of these contents that has so much room
 abbrev composite_in : Room → composite_stands.Contents → composite_kept.Kept
@@ -135,7 +147,7 @@ composite_in room c = record { limit = c.limit; lists = c.lists; lens = c.lens; 
 -- what a list keeps of these contents that has so much room
 abbrev with_room : Room → Contents → Keeps
 with_room room (of_source values limit) = Source (record { values = values; limit = limit; room = room.kept })
-with_room room (of_over input c) = Over input (derived_with room.kept c)
+with_room room (of_over input c) = Over input (derived_with room c)
 with_room room (of_composite needed c) = Composite needed (composite_in room c)
 
 its_own : (k : Keeps) → with_room (room_of k) (contents k) ≡ k
@@ -156,7 +168,7 @@ own_same a b e = carried (λ k. own_of a ≡ own_of k) any a b e refl
   where
     any : (r s : Room) (c : Contents) → own_of a ≡ own_of (with_room r c) → own_of a ≡ own_of (with_room s c)
     any r s (of_source values limit) h = h
-    any r s (of_over input c) h = h ∙ ap (over input) (derived_view r.kept s.kept c)
+    any r s (of_over input c) h = h ∙ ap (over input) (derived_view r s c)
     any r s (of_composite needed c) h = h
 
 pub stands_same : (shows : ℕ → List Tree) (a b : Keeps) → contents a ≡ contents b → StandsFor a shows
@@ -165,7 +177,7 @@ stands_same shows a b e h = carried (λ k. StandsFor k shows) any a b e h
   where
     any : (r s : Room) (c : Contents) → StandsFor (with_room r c) shows → StandsFor (with_room s c) shows
     any r s (of_source values limit) h = h
-    any r s (of_over input c) h = derived_stands (shows input) r.kept s.kept c h
+    any r s (of_over input c) h = derived_stands (shows input) r s c h
     any r s (of_composite needed c) h = h
 
 pub limited_same : (limit : ℕ) (a b : Keeps) → contents a ≡ contents b → IsLimited limit a → IsLimited limit b
@@ -173,7 +185,7 @@ limited_same limit a b e h = carried (λ k. IsLimited limit k) any a b e h
   where
     any : (r s : Room) (c : Contents) → IsLimited limit (with_room r c) → IsLimited limit (with_room s c)
     any r s (of_source values most) h = h
-    any r s (of_over input c) h = subst (IsLimit limit) (derived_limit r.kept s.kept c) h
+    any r s (of_over input c) h = subst (IsLimit limit) (derived_limit r s c) h
     any r s (of_composite needed c) h = h
 
 pub on_input_same : (P : ℕ → Type 0) (a b : Keeps) → contents a ≡ contents b → OnInput P a → OnInput P b
@@ -188,9 +200,11 @@ on_input_same P a b e h = carried (λ k. OnInput P k) any a b e h
 pub before_same : (undo : KeepsUndo) (a b : Keeps) → contents a ≡ contents b → before undo a ≡ before undo b
 before_same undo a b e = carried (λ k. before undo a ≡ before undo k) (λ r s c h. h ∙ any undo r s c) a b e refl
   where
-    same_contents : (input r s : ℕ) (c : derived.Contents) → contents (Over input (derived_with r c)) ≡ contents (Over input (derived_with s c))
+    same_contents : (input : ℕ) (r s : Room) (c : derived.Contents) → contents (Over input (derived_with r c)) ≡ contents (Over input (derived_with s c))
     same_contents input r s (of_filter c) = refl
     same_contents input r s (of_sorted c) = refl
+    same_contents input r s (of_unique c) = refl
+    same_contents input r s (of_grouping c) = refl
     same_contents input r s (of_range c) = refl
     same_contents input r s (of_function c) = refl
     same_contents input r s (of_collection c) = refl
@@ -202,13 +216,13 @@ before_same undo a b e = carried (λ k. before undo a ≡ before undo k) (λ r s
 
     any : (undo : KeepsUndo) (r s : Room) (c : Contents) → before undo (with_room r c) ≡ before undo (with_room s c)
     any (u.Source undo) r s (of_source values limit) = refl
-    any (u.Source undo) r s (of_over input c) = same_contents input r.kept s.kept c
+    any (u.Source undo) r s (of_over input c) = same_contents input r s c
     any (u.Source undo) r s (of_composite needed c) = refl
     any (u.Over undo) r s (of_source values limit) = refl
-    any (u.Over undo) r s (of_over input c) = ap (of_over input) (derived_before undo r.kept s.kept c)
+    any (u.Over undo) r s (of_over input c) = ap (of_over input) (derived_before undo r s c)
     any (u.Over undo) r s (of_composite needed c) = refl
     any (u.Composite undo) r s (of_source values limit) = refl
-    any (u.Composite undo) r s (of_over input c) = same_contents input r.kept s.kept c
+    any (u.Composite undo) r s (of_over input c) = same_contents input r s c
     any (u.Composite undo) r s (of_composite needed c) = ap (of_composite needed) (same_step undo.step needed r s c)
 
 -- an undo can be taken of the one list as of the other, and leaves no less room there
@@ -226,17 +240,17 @@ in_more : (undo : KeepsUndo) (r s : Room) (c : Contents) → IsNoMore r s → Ca
     → CanAlso undo (with_room r c) (with_room s c)
 in_more (u.Source undo) r s (of_source values limit) h can = record {
   can = record { within = can.within; can = can_play_more _ r.kept s.kept undo.log.items values h.kept can.can };
-  room = record { kept = h.kept; members = omega arith };
+  room = kept_alone r s h;
 }
 in_more (u.Over undo) r s (of_over input c) h can =
-    let more = derived_in_more undo r.kept s.kept c h.kept can in
-    record { can = more.can; room = record { kept = more.room; members = omega arith } }
+    let more = derived_in_more undo r s c h can in
+    record { can = more.can; room = more.room }
 in_more (u.Composite undo) r s (of_composite needed c) h can = record {
   can = record {
     within = stepped_within undo.step r s c can.within;
     can = step_in_more undo.step r s c h can.can;
   };
-  room = h;
+  room = record { kept = h.kept; members = h.members; sorted = omega arith; firsts = omega arith };
 }
   where
     stepped_within : (step : Step) (r s : Room) (c : composite_stands.Contents)

@@ -46,6 +46,8 @@ built_of : (P : ℕ → Type 0) (kind : ListKind) → IsKindBuilt kind → ((i :
 built_of P (kinds.Source rows) h f = tt
 built_of P (kinds.Filter input matcher) h f = f input (Contains-here input [] input refl)
 built_of P (kinds.Sorted input order) h f = f input (Contains-here input [] input refl)
+built_of P (kinds.Unique input order) h f = f input (Contains-here input [] input refl)
+built_of P (kinds.Grouping input order) h f = f input (Contains-here input [] input refl)
 built_of P (kinds.Range input bounds) h f = f input (Contains-here input [] input refl)
 built_of P (kinds.Function input func) h f = f input (Contains-here input [] input refl)
 built_of P (kinds.Collection input kids) h f = f input (Contains-here input [] input refl)
@@ -57,6 +59,8 @@ seen_inward : (kind : ListKind) → IsKindBuilt kind → Inward (seen_through ki
 seen_inward (kinds.Source rows) h = tt
 seen_inward (kinds.Filter input matcher) h = tt
 seen_inward (kinds.Sorted input order) h = tt
+seen_inward (kinds.Unique input order) h = tt
+seen_inward (kinds.Grouping input order) h = tt
 seen_inward (kinds.Range input bounds) h = tt
 seen_inward (kinds.Function input func) h = tt
 seen_inward (kinds.Collection input kids) h = tt
@@ -68,6 +72,8 @@ seen_opening : (shows : ℕ → List Tree) (kind : ListKind) → IsKindBuilt kin
 seen_opening shows (kinds.Source rows) h = refl
 seen_opening shows (kinds.Filter input matcher) h = refl
 seen_opening shows (kinds.Sorted input order) h = refl
+seen_opening shows (kinds.Unique input order) h = refl
+seen_opening shows (kinds.Grouping input order) h = refl
 seen_opening shows (kinds.Range input bounds) h = refl
 seen_opening shows (kinds.Function input func) h = refl
 seen_opening shows (kinds.Collection input kids) h = refl

@@ -14,6 +14,8 @@ abbrev pub IsBuilt : (ℕ → Type 0) → ListKind → Type 0
 IsBuilt P (kinds.Source rows) = ⊤
 IsBuilt P (kinds.Filter input matcher) = P input
 IsBuilt P (kinds.Sorted input order) = P input
+IsBuilt P (kinds.Unique input order) = P input
+IsBuilt P (kinds.Grouping input order) = P input
 IsBuilt P (kinds.Range input bounds) = P input
 IsBuilt P (kinds.Function input func) = P input
 IsBuilt P (kinds.Collection input kids) = P input

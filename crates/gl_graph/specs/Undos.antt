@@ -24,8 +24,9 @@ contents (Composite needed k) = of_composite needed (composite_stands.contents k
 -- how much it has room for
 abbrev pub room_of : Keeps → Room
 room_of (Source k) = room k.room
-room_of (Over input d) = room (derived.room_of d)
-room_of (Composite needed k) = record { kept = k.room; members = k.list_room }
+room_of (Over input d) = derived.room_of d
+room_of (Composite needed k) =
+    record { kept = k.room; members = k.list_room; sorted = 0; firsts = 0 }
 
 -- what an undo makes of a list; one of another kind makes nothing of it
 abbrev pub before : KeepsUndo → Keeps → Contents
@@ -44,7 +45,7 @@ CanRetreat undo keeps = ⊥
 
 -- how much a list has room for once an undo was taken
 abbrev pub room_back : KeepsUndo → Keeps → Room
-room_back (u.Over undo) (Over input d) = room (derived.room_back undo d)
+room_back (u.Over undo) (Over input d) = derived.room_back undo d
 room_back undo keeps = room_of keeps
 
 -- the undo is of the list's last change: it leads back to what the list was, in no less room, and can be made

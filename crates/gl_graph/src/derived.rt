@@ -12,13 +12,15 @@ ghost use Rattle.gl_kernels.specs.Stands as filter_stands;
 ghost use Rattle.gl_kernels.specs.Told.{change_cost};
 ghost use Rattle.gl_graph.specs.Spots.{spotted, OnSpot};
 ghost use Rattle.gl_graph.specs.Commands.{Gives};
+ghost use Rattle.gl_graph.specs.Room.{IsNoMore};
 ghost use Rattle.gl_graph.specs.Derived.{view_of_derived, StandsFor, contents, room_of, room_back, before, CanRetreat, IsUndo, IsOver, limit_of, AsksOf, AsksFor};
 
 use crate::command::{bounds_of, func_of, matcher_of, order_of};
 use crate::spot::{Spot, child_in, spot_in};
 use gl_kernels::{
-    Collection, CollectionUndo, Delta, Filter, FilterUndo, Function, FunctionUndo, KernelFault,
-    RangeKernel, RangeUndo, Sorted, SortedUndo, kind,
+    Collection, CollectionUndo, Delta, Filter, FilterUndo, Function, FunctionUndo, Grouping,
+    GroupingUndo, KernelFault, RangeKernel, RangeUndo, Sorted, SortedUndo, Unique, UniqueUndo,
+    kind,
 };
 use gl_plan::{Command, Matcher, Shelf, Steps};
 use std::alloc::{AllocError, Global};
@@ -29,6 +31,8 @@ use std::sync::ledger::Ledger;
 pub enum Derived {
     Filter(Filter),
     Sorted(Sorted),
+    Unique(Unique),
+    Grouping(Grouping),
     Range(RangeKernel),
     Function(Function),
     Collection(Collection),
@@ -39,6 +43,8 @@ pub enum Derived {
 pub enum DerivedUndo {
     Filter(FilterUndo),
     Sorted(SortedUndo),
+    Unique(UniqueUndo),
+    Grouping(GroupingUndo),
     Range(RangeUndo),
     Function(FunctionUndo),
     Collection(CollectionUndo),
@@ -53,6 +59,8 @@ impl Derived {
         match self {
             Derived::Filter(filter) => filter.len(),
             Derived::Sorted(sorted) => sorted.len(),
+            Derived::Unique(unique) => unique.len(),
+            Derived::Grouping(grouping) => grouping.len(),
             Derived::Range(range) => range.len(),
             Derived::Function(function) => function.len(),
             Derived::Collection(collection) => collection.len(),
@@ -70,6 +78,8 @@ impl Derived {
         match self {
             Derived::Filter(filter) => spot_in(input, filter.find(position)),
             Derived::Sorted(sorted) => spot_in(input, sorted.find(position)),
+            Derived::Unique(unique) => spot_in(input, unique.find(position)),
+            Derived::Grouping(grouping) => spot_in(input, grouping.find(position)),
             Derived::Range(range) => spot_in(input, range.find(position)),
             Derived::Function(function) => spot_in(input, function.find(position)),
             Derived::Collection(collection) => {
@@ -93,7 +103,7 @@ impl Derived {
         ensures view { OnOk result (view_of_derived self.new ≡ view_of_derived self.old) }
         ensures undo { IfOk result (λ told. IsUndo told.1 self.old self.new) }
         ensures err { OnErr result (contents self.new ≡ contents self.old) }
-        ensures room { OnErr result (room_of self.old ≤ room_of self.new) }
+        ensures room { OnErr result (IsNoMore (room_of self.old) (room_of self.new)) }
         ensures limit { OnOk result (limit_of self.new ≡ limit_of self.old) }
         ensures over { IfErr result (IsOver self.old (S.items input.now)) }
         ensures counted { AsksOf self.old d.now.pieces (length (S.items input.now)) steps.old
@@ -106,6 +116,14 @@ impl Derived {
             },
             Derived::Sorted(sorted) => match sorted.advance(input, d, steps) {
                 Ok((out, undo)) => Ok((out, DerivedUndo::Sorted(undo))),
+                Err(_) => Err(KernelFault::Memory),
+            },
+            Derived::Unique(unique) => match unique.advance(input, d, steps) {
+                Ok((out, undo)) => Ok((out, DerivedUndo::Unique(undo))),
+                Err(_) => Err(KernelFault::Memory),
+            },
+            Derived::Grouping(grouping) => match grouping.advance(input, d, steps) {
+                Ok((out, undo)) => Ok((out, DerivedUndo::Grouping(undo))),
                 Err(_) => Err(KernelFault::Memory),
             },
             Derived::Range(range) => match range.advance(input, d, steps) {
@@ -141,7 +159,7 @@ impl Derived {
             (view_of_derived self.new ≡ view_after (parameter_of command.now) (view_of_derived self.old)) }
         ensures undo { IfOk result (λ told. IsUndo told.1 self.old self.new) }
         ensures err { OnErr result (contents self.new ≡ contents self.old) }
-        ensures room { OnErr result (room_of self.old ≤ room_of self.new) }
+        ensures room { OnErr result (IsNoMore (room_of self.old) (room_of self.new)) }
         ensures limit { OnOk result (limit_of self.new ≡ limit_of self.old) }
         ensures counted { (given : Parameter) → parameter_of command.now ≡ Some given
             → AsksFor self.old given (length (S.items input.now)) steps.old steps.new }
@@ -154,6 +172,14 @@ impl Derived {
             Derived::Sorted(sorted) => {
                 let (out, undo) = sorted.change(order_of(command).copy(alloc)?, input, steps)?;
                 Ok((out, DerivedUndo::Sorted(undo)))
+            }
+            Derived::Unique(unique) => {
+                let (out, undo) = unique.change(order_of(command).copy(alloc)?, input, steps)?;
+                Ok((out, DerivedUndo::Unique(undo)))
+            }
+            Derived::Grouping(grouping) => {
+                let (out, undo) = grouping.change(order_of(command).copy(alloc)?, input, steps)?;
+                Ok((out, DerivedUndo::Grouping(undo)))
             }
             Derived::Range(range) => {
                 let (out, undo) = range.change(bounds_of(command), input)?;
@@ -171,7 +197,7 @@ impl Derived {
     pub fn retreat(&mut self, undo: DerivedUndo)
         requires { CanRetreat undo self.old }
         ensures back { contents self.new ≡ before undo self.old }
-        ensures room { room_back undo self.old ≤ room_of self.new }
+        ensures room { IsNoMore (room_back undo self.old) (room_of self.new) }
     {
         match undo {
             DerivedUndo::Filter(undo) => match self {
@@ -180,6 +206,14 @@ impl Derived {
             },
             DerivedUndo::Sorted(undo) => match self {
                 Derived::Sorted(sorted) => sorted.retreat(undo),
+                _ => unreachable!(),
+            },
+            DerivedUndo::Unique(undo) => match self {
+                Derived::Unique(unique) => unique.retreat(undo),
+                _ => unreachable!(),
+            },
+            DerivedUndo::Grouping(undo) => match self {
+                Derived::Grouping(grouping) => grouping.retreat(undo),
                 _ => unreachable!(),
             },
             DerivedUndo::Range(undo) => match self {

@@ -242,7 +242,7 @@ fn change<L: Ledger>(
     ensures err { OnErr result
         (derived_keeps.contents derived.new ≡ derived_keeps.contents derived.old) }
     ensures room { OnErr result
-        (derived_keeps.room_of derived.old ≤ derived_keeps.room_of derived.new) }
+        (IsNoMore (derived_keeps.room_of derived.old) (derived_keeps.room_of derived.new)) }
     ensures limit { OnOk result
         (derived_keeps.limit_of derived.new ≡ derived_keeps.limit_of derived.old) }
 {
@@ -273,7 +273,7 @@ fn follow<L: Ledger>(
     ensures err { OnErr result
         (derived_keeps.contents derived.new ≡ derived_keeps.contents derived.old) }
     ensures room { OnErr result
-        (derived_keeps.room_of derived.old ≤ derived_keeps.room_of derived.new) }
+        (IsNoMore (derived_keeps.room_of derived.old) (derived_keeps.room_of derived.new)) }
     ensures limit { OnOk result
         (derived_keeps.limit_of derived.new ≡ derived_keeps.limit_of derived.old) }
     ensures over { IfErr result

@@ -17,7 +17,9 @@ use crate::keeps::Keeps;
 use crate::node::Node;
 use crate::seen::{see, shown_len};
 use gl_composite::Composite;
-use gl_kernels::{Collection, Filter, Function, KernelFault, RangeKernel, Sorted};
+use gl_kernels::{
+    Collection, Filter, Function, Grouping, KernelFault, RangeKernel, Sorted, Unique,
+};
 use gl_plan::{Items, ListKind, Steps, Values};
 use gl_source::{OpenFault, SourceList};
 use std::alloc::{AllocError, Global};
@@ -82,6 +84,16 @@ fn made<L: Ledger>(
             let shelf = see(prefix, positions, *input);
             let sorted = Sorted::make(alloc, order.copy(alloc)?, &shelf, steps)?;
             Ok(over(*input, Derived::Sorted(sorted)))
+        }
+        ListKind::Unique { input, order } => {
+            let shelf = see(prefix, positions, *input);
+            let unique = Unique::make(alloc, order.copy(alloc)?, &shelf, steps)?;
+            Ok(over(*input, Derived::Unique(unique)))
+        }
+        ListKind::Grouping { input, order } => {
+            let shelf = see(prefix, positions, *input);
+            let grouping = Grouping::make(alloc, order.copy(alloc)?, &shelf, steps)?;
+            Ok(over(*input, Derived::Grouping(grouping)))
         }
         ListKind::Range { input, bounds } => {
             let shelf = see(prefix, positions, *input);

@@ -1,3 +1,4 @@
+pub use Rattle.gl_arranged.proofs.Rooms
 pub mod Shown
 pub mod Replacement
 pub mod Positions

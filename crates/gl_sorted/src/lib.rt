@@ -10,5 +10,6 @@ mod sorted;
 #[cfg(test)]
 mod tests;
 
+pub use gl_lang::Order;
 pub use gl_value::Memory;
 pub use sorted::{Sorted, SortedUndo};

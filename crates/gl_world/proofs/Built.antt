@@ -22,12 +22,12 @@ kind_built : (kind : ListKind) → is_built_kind kind ≡ true → IsKindBuilt k
 kind_built (kinds.Source rows) e = tt
 kind_built (kinds.Filter input matcher) e = tt
 kind_built (kinds.Sorted input order) e = tt
+kind_built (kinds.Unique input order) e = tt
+kind_built (kinds.Grouping input order) e = tt
 kind_built (kinds.Range input bounds) e = tt
 kind_built (kinds.Function input func) e = tt
 kind_built (kinds.Collection input kids) e = tt
 kind_built (kinds.Composite members may) e = all_true (members ++ may)
-kind_built (kinds.Unique input order) e = absurd cc
-kind_built (kinds.Grouping input order) e = absurd cc
 kind_built (kinds.Transaction input) e = absurd cc
 kind_built (kinds.Freezable input) e = absurd cc
 kind_built (kinds.Proxy input) e = absurd cc

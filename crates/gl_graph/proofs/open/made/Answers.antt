@@ -4,6 +4,8 @@ use Rattle.spec_states.specs.View.{view_of, collection}
 use Rattle.spec_states.specs.Shown.{shown_of}
 use Rattle.spec_states.specs.Opening.{seen_through}
 use Rattle.gl_kernels.specs.SortedStands as sorted_stands
+use Rattle.gl_kernels.specs.UniqueStands as unique_stands
+use Rattle.gl_kernels.specs.GroupingStands as grouping_stands
 use Rattle.gl_kernels.specs.KernelFault.TheVariants.{TooLong}
 use Rattle.gl_graph.specs.Kept.{Kept}
 use Rattle.gl_graph.specs.Nodes.{shown_by, StandsFor}
@@ -16,6 +18,18 @@ returns-in_ok-sorted-in-Sorted-clause-stands g c =
     let made = c.in_ok-sorted-in-Sorted in
     subst (λ k. StandsFor k (shown_by c.args.prefix.now c.args.positions.now)) (sym c.over-in-Sorted.ensures)
     (subst (λ (s : Kept). sorted_stands.StandsFor made.sorted (shown_by s.prefix s.positions s.list)) c.see-shelf-in-Sorted.ensures.seen made.ensures.stands)
+
+pub returns-in_ok-unique-in-Unique-clause-stands : goal.returns-in_ok-unique-in-Unique-clause-stands
+returns-in_ok-unique-in-Unique-clause-stands g c =
+    let made = c.in_ok-unique-in-Unique in
+    subst (λ k. StandsFor k (shown_by c.args.prefix.now c.args.positions.now)) (sym c.over-in-Unique.ensures)
+    (subst (λ (s : Kept). unique_stands.StandsFor made.unique (shown_by s.prefix s.positions s.list)) c.see-shelf-in-Unique.ensures.seen made.ensures.stands)
+
+pub returns-in_ok-grouping-in-Grouping-clause-stands : goal.returns-in_ok-grouping-in-Grouping-clause-stands
+returns-in_ok-grouping-in-Grouping-clause-stands g c =
+    let made = c.in_ok-grouping-in-Grouping in
+    subst (λ k. StandsFor k (shown_by c.args.prefix.now c.args.positions.now)) (sym c.over-in-Grouping.ensures)
+    (subst (λ (s : Kept). grouping_stands.StandsFor made.grouping (shown_by s.prefix s.positions s.list)) c.see-shelf-in-Grouping.ensures.seen made.ensures.stands)
 
 pub returns-in-Err-clause-over : goal.returns-in-Err-clause-over
 returns-in-Err-clause-over g c =
