@@ -1,8 +1,9 @@
 -- Whole texts: what the lines after the first one come to is what the text comes to.
-use Rattle.std.proofs.Common.{◌≡◌, ◌∙◌, ℕ, List, [], ◌∷◌, take, None, Result, Ok, Err, sym, ap, subst, inl, inr, codes}
-use Rattle.std.specs.Prelude.{IfOk, OnOk, IfErr, MatchResult}
+use Rattle.std.proofs.Common.{◌≡◌, ◌∙◌, ℕ, List, [], ◌∷◌, take, None, Result, Ok, Err, sym, ap, subst, codes}
+use Rattle.std.specs.Prelude.{All, IfOk, OnOk, IfErr, MatchResult}
 use Rattle.std.specs.Str.{IsUtf8}
 use Rattle.std.specs.Str.Lossy.{utf8_valid_len}
+use Rattle.std.proofs.lemmas.List.Elements.{All-from_recursion}
 use Rattle.spec_plan_texts.specs.Cuts.{lines_in, IsFirstLine}
 use Rattle.gl_lines.specs.declared.line.NumberedLine.{NumberedLine}
 use Rattle.gl_lines.specs.declared.fault.PlanKind.TheVariants.{Header}
@@ -12,40 +13,40 @@ use Rattle.spec_plan_texts.specs.Making.{plan_of}
 use Rattle.spec_plan_texts.specs.Plan.{Plan}
 use Rattle.spec_plan_texts.specs.Cycles.{IsAcyclic}
 use Rattle.spec_plan_texts.specs.Reading.{all_read, stopped, outside, Comes}
-use Rattle.spec_plan_texts.specs.Text.{SpellsPlan, no_utf8, no_header, in_line, in_names, place_behind}
+use Rattle.spec_plan_texts.specs.Text.{ReadsTo, SpellsPlan, no_utf8, no_header, in_line, in_names, place_behind}
+use Rattle.spec_plan_texts.proofs.Read.{read_within}
+use Rattle.gl_plan.specs.Within.{IsWithin}
 use Rattle.gl_plan.specs.Fault.{IsFaultOf}
 use Rattle.gl_plan.specs.declared.fault.PlanFault.{PlanFault}
 use Rattle.gl_plan.specs.declared.fault.PlanFault.TheVariants.{At, Cycle, Memory}
-use Rattle.gl_text.specs.Spelled.{IsFault, IsHeader, LacksHeader, Makes, FailsAfter, IsPlaceFault}
+use Rattle.gl_text.specs.Spelled.{IsFault, IsHeader, LacksHeader, IsPlaceFault}
 use Rattle.gl_text.proofs.Progress.{rest_text}
 
--- lines that were all read, and what was made of them
-unmade : (raws : List (List ℕ)) (lines : List NumberedLine) (fault : PlanFault) → Comes outside [] 2 raws (all_read lines) → IsFaultOf lines fault → FailsAfter raws fault
-unmade raws lines (At line column k) read h = inr (record { lines = lines; read = read; they = h })
-unmade raws lines (Cycle names) read h = record { lines = lines; read = read; they = h }
-unmade raws lines Memory read h = tt
+-- the lines after the header
+pub lines_read : (bytes rest : List ℕ) (lines : List NumberedLine) → IsUtf8 bytes → IsHeader bytes rest
+    → Comes outside [] 2 (lines_in rest) (all_read lines) → ReadsTo bytes (all_read lines)
+lines_read bytes rest lines u head read = (u, lines_in rest, head.lines, read)
 
-pub plan_either : (raws : List (List ℕ)) (lines : List NumberedLine) (result : Result Plan PlanFault) → Comes outside [] 2 raws (all_read lines)
+pub line_stops : (bytes rest : List ℕ) (f : FaultAt) → IsUtf8 bytes → IsHeader bytes rest
+    → Comes outside [] 2 (lines_in rest) (stopped f) → IsFault bytes (At f.line f.column f.kind)
+line_stops bytes rest f u head stops = in_line (u, lines_in rest, head.lines, stops)
+
+pub lines_within : (bytes : List ℕ) (lines : List NumberedLine) → ReadsTo bytes (all_read lines)
+    → All (λ l. IsWithin l.what) lines
+lines_within bytes lines read = All-from_recursion (λ (l : NumberedLine). IsWithin l.what) lines (read_within bytes lines read)
+
+-- what is made of the lines
+unmade : (bytes : List ℕ) (lines : List NumberedLine) (fault : PlanFault) → ReadsTo bytes (all_read lines)
+    → IsFaultOf lines fault → IsFault bytes fault
+unmade bytes lines (At line column k) read h = in_names read h
+unmade bytes lines (Cycle names) read h = record { lines = lines; read = read; sound = h.0; cycle = h.1 }
+unmade bytes lines Memory read h = tt
+
+pub text_either : (bytes : List ℕ) (lines : List NumberedLine) (result : Result Plan PlanFault) → ReadsTo bytes (all_read lines)
     → IfOk result (λ p. p ≡ plan_of lines) → OnOk result (first_fault_at lines ≡ None) → IfOk result IsAcyclic → IfErr result (IsFaultOf lines)
-    → MatchResult result (Makes raws) (FailsAfter raws)
-plan_either raws lines (Ok p) read makes sound acyclic fault = record { lines = lines; read = read; sound = sound; makes = makes; acyclic = acyclic }
-plan_either raws lines (Err f) read makes sound acyclic fault = unmade raws lines f read fault
-
-pub stopped_at : (raws : List (List ℕ)) (f : FaultAt) → Comes outside [] 2 raws (stopped f) → FailsAfter raws (At f.line f.column f.kind)
-stopped_at raws f h = inl h
-
--- the same of the text
-fails : (bytes rest : List ℕ) (fault : PlanFault) → IsUtf8 bytes → IsHeader bytes rest → FailsAfter (lines_in rest) fault → IsFault bytes fault
-fails bytes rest (At line column k) u head (inl h) = in_line (u, lines_in rest, head.lines, h)
-fails bytes rest (At line column k) u head (inr h) = in_names (u, lines_in rest, head.lines, h.read) h.they
-fails bytes rest (Cycle names) u head h = record { lines = h.lines; read = (u, lines_in rest, head.lines, h.read); sound = h.they.0; cycle = h.they.1 }
-fails bytes rest Memory u head h = tt
-
-pub text_either : (bytes rest : List ℕ) (result : Result Plan PlanFault) → IsUtf8 bytes → IsHeader bytes rest
-    → MatchResult result (Makes (lines_in rest)) (FailsAfter (lines_in rest)) → MatchResult result (SpellsPlan bytes) (IsFault bytes)
-text_either bytes rest (Ok p) u head h =
-    record { lines = h.lines; read = (u, lines_in rest, head.lines, h.read); sound = h.sound; makes = h.makes; acyclic = h.acyclic }
-text_either bytes rest (Err fault) u head h = fails bytes rest fault u head h
+    → MatchResult result (SpellsPlan bytes) (IsFault bytes)
+text_either bytes lines (Ok p) read makes sound acyclic fault = record { lines = lines; read = read; sound = sound; makes = makes; acyclic = acyclic }
+text_either bytes lines (Err f) read makes sound acyclic fault = unmade bytes lines f read fault
 
 pub header_fault : (bytes : List ℕ) → IsUtf8 bytes → LacksHeader bytes → IsFault bytes (At 1 1 Header)
 header_fault bytes u lacks = no_header u lacks

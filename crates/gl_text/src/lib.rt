@@ -12,6 +12,7 @@ mod plan_reader;
 mod plan_writer;
 mod reading;
 mod records;
+mod shared_names;
 mod stop;
 #[cfg(test)]
 mod tests;
@@ -21,5 +22,5 @@ pub use gl_line_writer::write_line;
 pub use gl_plan::{Plan, PlanFault};
 pub use gl_syntax::{ReadFault, read_value, write_value};
 pub use gl_value::{Bytes, Memory, Value};
-pub use plan_reader::read_plan;
+pub use plan_reader::{into_plan, read_plan};
 pub use plan_writer::write_plan;

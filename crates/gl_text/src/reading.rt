@@ -7,6 +7,7 @@ ghost use Rattle.spec_plan_texts.specs.Place.{is_too_many};
 ghost use Rattle.gl_text.specs.Goes.{StopsAfter, StopsFor, IsReading, GoesOn, GoesOnWith, StopsWith, IsLineFault};
 
 use crate::block::with_block;
+use crate::shared_names::SharedNames;
 use crate::stop::{Stop, fault};
 use gl_line_reader::read_line;
 use gl_lines::{Line, Lines, Named, NumberedLine, PlanKind};
@@ -63,7 +64,7 @@ fn push(lines: &mut Lines, line: NumberedLine) -> Result<(), AllocError>
 
 /// The lines of a text after its first one, which is the second line of the plan, with a `row` line for each record of a
 /// block after its `csv` line; or the first fault of the lines' length, form or place. It goes once over the bytes, and
-/// takes memory in proportion to them.
+/// takes memory in proportion to them; lines about the same list share its name.
 pub fn read_lines(alloc: Global, bytes: &[u8]) -> Result<Lines, Stop>
     requires { IsUtf8 bytes.now }
     ensures { MatchResult result (λ lines. Comes outside [] 2 (lines_in bytes.now) (all_read lines))
@@ -74,9 +75,10 @@ pub fn read_lines(alloc: Global, bytes: &[u8]) -> Result<Lines, Stop>
         before: Before::nothing(),
         number: 2,
     };
+    let mut names = SharedNames::new(alloc);
     let mut rest = bytes;
     'lines: while let Some((raw, others)) = next_line(rest) {
-        rest = with_raw(alloc, &mut reading, raw, others)?;
+        rest = with_raw(alloc, &mut names, &mut reading, raw, others)?;
     }
     Ok(reading.lines)
 }
@@ -85,6 +87,7 @@ pub fn read_lines(alloc: Global, bytes: &[u8]) -> Result<Lines, Stop>
 #[tactic(auto, using(crate::proofs::Progress::skipped_goes))]
 fn with_raw<'a>(
     alloc: Global,
+    names: &mut SharedNames,
     reading: &mut Reading,
     raw: &[u8],
     others: &'a [u8],
@@ -104,19 +107,34 @@ fn with_raw<'a>(
         reading.number += 1;
         return Ok(others);
     }
-    match line_of(alloc, raw) {
+    match line_of(alloc, names, raw) {
         Ok(line) => with_line(alloc, reading, line, others),
         Err(ReadFault::Form { column }) => Err(fault(reading.number, column, PlanKind::Form)),
         Err(ReadFault::Memory) => Err(Stop::Memory),
     }
 }
 
-// The line that the bytes spell.
+// The line that the bytes spell. The name of the list that it is about is shared with earlier lines.
 #[tactic(auto, unfolding(spec_plan_texts::specs::Reading::SpellsLine, spec_plan_texts::specs::Reading::LeavesLines))]
-fn line_of(alloc: Global, raw: &[u8]) -> Result<Line, ReadFault>
+fn line_of(alloc: Global, names: &mut SharedNames, raw: &[u8]) -> Result<Line, ReadFault>
     ensures { MatchResult result (SpellsLine raw.now) (IsLineFault raw.now) }
 {
-    read_line(alloc, raw)
+    match read_line(alloc, raw) {
+        Ok(line) => shared(names, line),
+        Err(fault) => Err(fault),
+    }
+}
+
+fn shared(names: &mut SharedNames, mut line: Line) -> Result<Line, ReadFault>
+    ensures { MatchResult result (λ same. same ≡ line) (λ fault. fault ≡ ReadFault.Memory) }
+{
+    match names.share(&mut line) {
+        Ok(()) => Ok(line),
+        Err(_) => {
+            drop(line);
+            Err(ReadFault::Memory)
+        }
+    }
 }
 
 // Whether a line is empty or a comment.

@@ -1,6 +1,6 @@
 //! Whole texts, with their plans, their first faults and their first cycles.
 
-use crate::read_plan;
+use crate::{Bytes, into_plan, read_plan};
 use gl_lines::PlanKind;
 use gl_plan::{Names, Plan, PlanFault};
 use std::process::Abort;
@@ -160,11 +160,23 @@ fn plan(rt: &(impl Abort + AllocGlobal), text: &[u8]) -> Plan {
     }
 }
 
+// The plan of bytes that are given up.
+fn given_plan(rt: &(impl Abort + AllocGlobal), text: &[u8]) -> Plan {
+    let mut bytes = Bytes::new(rt.alloc());
+    if bytes.push_all(text).is_err() {
+        panic!(rt; "no memory");
+    }
+    match into_plan(rt.alloc(), bytes) {
+        Ok(plan) => plan,
+        Err(_) => panic!(rt; "a fault"),
+    }
+}
+
 #[test]
 fn reads_one_plan_of_two_texts(rt: HostRuntime) {
     for (text, other) in &ALIKE {
         let made = plan(&rt, text);
-        assert!(rt; made.same(&plan(&rt, other)));
+        assert!(rt; made.same(&given_plan(&rt, other)));
         match made.copy(rt.alloc()) {
             Ok(copy) => assert!(rt; made.same(&copy)),
             Err(_) => panic!(rt; "out of memory"),
