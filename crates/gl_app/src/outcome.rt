@@ -14,8 +14,8 @@ use crate::reading::{ReadAllFault, read_all};
 use crate::requests::{answer_fault, answer_request};
 use crate::words::{Request, read_words};
 use gl_outside::Source;
-use gl_syntax::Text;
-use gl_text::read_plan;
+use gl_syntax::{Bytes, Text};
+use gl_text::into_plan;
 use gl_world::RunName;
 use std::alloc::{AllocError, Global};
 
@@ -78,7 +78,7 @@ fn answer_source<N: RunName, S: Source>(
     ensures sound { S.never_fails source.old → S.faults source.new ≡ S.faults source.old }
 {
     match read_all(alloc, source, MOST_BYTES) {
-        Ok(bytes) => Ok(answer_bytes::<N>(alloc, bytes.as_slice(), request)?),
+        Ok(bytes) => Ok(answer_bytes::<N>(alloc, bytes, request)?),
         Err(ReadAllFault::TooLarge) => Ok(Answer::TooLarge),
         Err(ReadAllFault::Failed) => Err(Stop::Read),
         Err(ReadAllFault::Memory) => Err(Stop::Memory),
@@ -88,14 +88,14 @@ fn answer_source<N: RunName, S: Source>(
 #[tactic(auto, using(crate::proofs::RequestOutcomes::plan_answer, crate::proofs::RequestOutcomes::fault_answer, crate::proofs::RequestOutcomes::after_request, crate::proofs::RequestOutcomes::later_fault))]
 fn answer_bytes<N: RunName>(
     alloc: Global,
-    bytes: &[u8],
+    bytes: Bytes,
     request: &Request,
 ) -> Result<Answer, AllocError>
-    requires { length bytes.now ≤ most_bytes }
-    ensures answer { IfOk result (AnswersBytes (request_of request.now) bytes.now) }
+    requires { length bytes ≤ most_bytes }
+    ensures answer { IfOk result (AnswersBytes (request_of request.now) bytes) }
     ensures status { IfOk result (λ a. IsAfterAll (status_at a)) }
 {
-    match read_plan(alloc, bytes) {
+    match into_plan(alloc, bytes) {
         Ok(plan) => answer_request::<N>(alloc, &plan, request),
         Err(fault) => answer_fault(alloc, &fault),
     }
