@@ -151,6 +151,18 @@ impl Transaction {
         })
     }
 
+    /// The delta that takes the source back to where it stood when the innermost level began. It takes memory by the changes
+    /// of the level.
+    pub fn taken_back(&self) -> Result<Delta, CloseFault>
+        ensures pieces { IfOk result (λ d. d.pieces ≡ taken_back self.now.levels) }
+        ensures not_open { (result ≡ Err CloseFault.NotOpen) ↔ (self.now.levels ≡ []) }
+    {
+        if self.levels.depth() == 0 {
+            return Err(CloseFault::NotOpen);
+        }
+        Ok(self.levels.level(0).delta()?.inverse())
+    }
+
     /// Drops the innermost level, and answers the delta that takes its source back to where it stood when that began; an
     /// outer level keeps its delta. It takes memory by the changes of the level.
     pub fn rollback(&mut self) -> Result<(Delta, HeldUndo), CloseFault>
@@ -161,15 +173,12 @@ impl Transaction {
         ensures err { OnErr result (self.new.levels ≡ self.old.levels) }
         ensures room { self.old.room ≤ self.new.room }
     {
-        if self.levels.depth() == 0 {
-            return Err(CloseFault::NotOpen);
-        }
-        let d = self.levels.level(0).delta()?.inverse();
+        let d = self.taken_back()?;
         Ok((d, self.drop_level()))
     }
 
-    // Drops the innermost level.
-    fn drop_level(&mut self) -> HeldUndo
+    /// Drops the innermost level, once the source stands as it did when that began. It takes no memory.
+    pub fn drop_level(&mut self) -> HeldUndo
         requires { 0 < length self.old.levels }
         ensures levels { self.new.levels ≡ drop 1 self.old.levels }
         ensures undo { IsUndo result self.old self.new }
