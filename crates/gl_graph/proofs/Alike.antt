@@ -7,7 +7,7 @@ use Rattle.spec_states.specs.Tree.{Tree}
 use Rattle.spec_states.specs.State.{State, dependency_order}
 use Rattle.spec_states.specs.Step.{too_long}
 use Rattle.spec_states.specs.Shown.{nothing_shown, settled, shows_in}
-use Rattle.spec_states.specs.Laws.{IsOrdered}
+use Rattle.spec_states.specs.Laws.{IsSound}
 use Rattle.gl_graph.specs.declared.node.Node.{Node}
 use Rattle.gl_graph.specs.Nodes.{own_of_node, own_in, state_of, numbers, shown_by, OnInput, StandsFor, IsPlaced, IsInTurn, IsSettled}
 use Rattle.gl_graph.specs.Undos as keeps
@@ -107,7 +107,7 @@ graph_same limit a b positions e f g =
       few_lists = g.few_lists;
       few = g.few;
       placed = λ list within. placed_same a b positions e list (g.placed list within);
-      ordered = subst (λ s. IsOrdered s) state g.ordered;
+      sound = subst (λ s. IsSound s) state g.sound;
       order = subst (λ s. dependency_order s ≡ numbers b) state (g.order ∙ e);
       settled = λ position node is. (let t = twin a b e f position node is in settled_same a b positions e f position t.other node t.list_is t.contents_are (g.settled position t.other t.is));
       limited = λ position node is. (let t = twin a b e f position node is in limited_same limit t.other.keeps node.keeps t.contents_are (g.limited position t.other t.is));

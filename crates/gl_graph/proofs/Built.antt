@@ -11,7 +11,7 @@ use Rattle.gl_graph.specs.Graph.{IsLimited}
 use Rattle.gl_graph.specs.Build.{IsOneMore, AreOpened}
 use Rattle.gl_graph.proofs.Shown.{order_of_settled, turn_shows}
 use Rattle.gl_graph.proofs.Prefixes.{settled_more, prefix_shows, number_at}
-use Rattle.gl_graph.proofs.Plain.{inward, among_inward, each_input}
+use Rattle.gl_graph.proofs.Inputs.{inward, among_inward, each_input}
 use Rattle.spec_states.proofs.Views.{Inward, shown_local}
 
 -- an item of a list with one more

@@ -1,23 +1,19 @@
 -- How a command begins to spread, and what holds once it came to the last place.
-use Rattle.std.proofs.Common.{◌≡◌, ◌∙◌, ℕ, zero, suc, ◌<◌, ◌≤◌, Bool, true, false, nat_le, if◌then◌else◌, List, [], ◌∷◌, length, take, replicate, refl, ap, sym, subst, arith, inl, inr}
+use Rattle.std.proofs.Common.{◌≡◌, ◌∙◌, ℕ, zero, suc, ◌<◌, ◌≤◌, List, [], ◌∷◌, length, take, replicate, refl, ap, sym, subst, arith}
 use Rattle.std.specs.Prelude.{Option, Some, None, slice_get, slice_index, slice_index_or}
 use Rattle.std.specs.Option.{option_or}
 use Rattle.std.specs.List.{Contains}
-use Rattle.std.proofs.lemmas.Bool.{leb-true}
 use Rattle.std.proofs.lemmas.List.{length-map}
 use Rattle.std.proofs.lemmas.Option.{slice_get_within}
-use Rattle.spec_states.proofs.Members.{Contains-cons_cases}
 use Rattle.spec_states.specs.Command.{Command}
-use Rattle.spec_states.specs.Reply.TheVariants as reply
 use Rattle.gl_source.specs.Model.{DeltaModel}
-use Rattle.spec_states.specs.Plan.{origin as about}
 use Rattle.spec_states.specs.State.{State, own_at, dependency_order}
-use Rattle.spec_states.specs.Laws.{IsOrdered}
-use Rattle.spec_states.specs.Shown.{Table, shows_in, shown, table_of}
+use Rattle.spec_states.specs.Laws.{IsSound}
+use Rattle.spec_states.specs.Shown.{shown, table_of}
 use Rattle.spec_states.specs.Wave.{command, wave}
-use Rattle.spec_states.specs.Step.{first_longer, refusal, too_long, unmoved}
+use Rattle.spec_states.specs.Step.{refusal, too_long, unmoved}
 use Rattle.spec_states.proofs.DependencyOrder.{ordered as order_of}
-use Rattle.spec_states.proofs.Views.{wave_ordered, wave_order}
+use Rattle.spec_states.proofs.Views.{wave_order}
 use Rattle.gl_graph.specs.declared.node.Node.{Node}
 use Rattle.gl_graph.specs.Nodes.{own_of_node, numbers, state_of, IsPlaced, AreSettled}
 use Rattle.gl_graph.specs.Graph.{IsGraph}
@@ -26,13 +22,19 @@ use Rattle.gl_graph.specs.Undos.{room_of}
 use Rattle.gl_graph.proofs.NoMore.{no_more}
 use Rattle.gl_graph.specs.Waves.{Made, by_position, undo_at, room_one, AreTold, CanAllGoBack, HaveRoomBack}
 use Rattle.gl_graph.specs.Spread.{HasBegun, IsBegun, AreInverse, HaveBack, IsSpread}
-use Rattle.gl_graph.proofs.Plain.{own_at_state, long_state}
+use Rattle.gl_graph.proofs.Inputs.{own_at_state, long_state}
 use Rattle.gl_graph.proofs.Taken.{none_back, no_undo}
 use Rattle.gl_graph.proofs.Shown.{order_of_settled, member_at}
 use Rattle.gl_graph.proofs.Prefixes.{node_of}
 use Rattle.gl_graph.proofs.Starts.{same_state}
 use Rattle.gl_graph.proofs.Dispatch.{take_all}
-use Rattle.gl_graph.proofs.Next.{long_wave, start_about}
+use Rattle.gl_graph.proofs.Next.{long_wave}
+use Rattle.gl_graph.specs.declared.rollback.Rollback.{Rollback}
+use Rattle.spec_states.specs.Plan.{origin as about}
+use Rattle.gl_graph.specs.Commands.{Suits}
+use Rattle.gl_graph.specs.Rollbacks.{IsRollback, start_at}
+use Rattle.gl_graph.proofs.WholeWaves.{graph_sound}
+use Rattle.gl_graph.proofs.Rollbacks.{start_within}
 use Rattle.gl_graph.proofs.Refusals.{prefix_few, unmoved_by}
 use Rattle.spec_states.proofs.Lists.{replicate_at}
 use Rattle.spec_states.proofs.Longer.{none_longer, few_shown}
@@ -48,11 +50,22 @@ start_low limit old positions list g within =
     let low : slice_index positions list < length (numbers old) = slice_get_within (numbers old) (slice_index positions list) list (g.placed list within).there in
     omega (arith, low, length-map old (λ (n : Node). n.list))
 
+-- a command for a graph that is seen by slices has begun
+pub begun_of : (limit : ℕ) (old : List Node) (positions : List ℕ) (c : Command) (rollback : Option Rollback) (seen : List Node) (places : List ℕ) → IsGraph limit old positions
+    → about c < length (state_of old positions) → Suits c (own_at (state_of old positions) (about c)) → seen ≡ old → places ≡ positions
+    → IsRollback (state_of seen places) c rollback → IsBegun limit old positions c rollback
+begun_of limit old positions c rollback seen places graph within suits same placed is = record {
+  graph = graph;
+  within = within;
+  suits = suits;
+  is_rollback = subst (λ ns. IsRollback (state_of ns positions) c rollback) same (subst (λ ps. IsRollback (state_of seen ps) c rollback) placed is);
+}
+
 -- there are few nodes
 pub nodes_few : (limit : ℕ) (old : List Node) (positions : List ℕ) → IsGraph limit old positions → length old ≤ 256
 nodes_few limit old positions g =
     let s : State = state_of old positions in
-    let whole : length (dependency_order s) ≡ length s = (order_of s g.ordered).whole in
+    let whole : length (dependency_order s) ≡ length s = (order_of s g.sound.ordered).whole in
     omega (arith, whole, ap length g.order, length-map old (λ (n : Node). n.list), long_state old positions, g.few_lists)
 
 all_long : {X : Type 0} (x : X) (n : ℕ) → length (replicate n x) ≡ n
@@ -77,9 +90,9 @@ same_room n nodes p a b at_a at_b =
     subst (λ (m : Node). IsNoMore (room_of a.keeps) (room_one (undo_at (replicate n None) p) m.keeps)) one
     (subst (λ u. IsNoMore (room_of a.keeps) (room_one u a.keeps)) (sym (no_undo n p)) (no_more (room_of a.keeps)))
 
-pub spread_begins : (limit : ℕ) (old : List Node) (positions : List ℕ) (c : Command) (start : Option ℕ) (told : List (Option DeltaModel)) (made : Made) → IsBegun limit old positions c start
-    → told ≡ replicate (length positions) None → made ≡ [] → IsSpread limit old positions c start 0 old told made
-spread_begins limit old positions c start told made begun told_is made_is = record {
+pub spread_begins : (limit : ℕ) (old : List Node) (positions : List ℕ) (c : Command) (rollback : Option Rollback) (told : List (Option DeltaModel)) (made : Made) → IsBegun limit old positions c rollback
+    → told ≡ replicate (length positions) None → made ≡ [] → IsSpread limit old positions c rollback 0 old told made
+spread_begins limit old positions c rollback told made begun told_is made_is = record {
   begun = begun;
   inverted = record {
     numbers_are = refl;
@@ -110,11 +123,8 @@ spread_begins limit old positions c start told made begun told_is made_is = reco
   waiting = λ p high within. ap (λ ms. slice_get (by_position (length old) ms) p) made_is ∙ all_get None (length old) p within;
 }
   where
-    not_yet : HasBegun positions start 0 → ⊥
-    not_yet h = never (subst (λ o. HasBegun positions o 0) (start_about limit old positions c start begun) h)
-      where
-        never : slice_index positions (about c) < 0 → ⊥
-        never low = omega (arith, low)
+    not_yet : HasBegun positions rollback c 0 → ⊥
+    not_yet h = let low : slice_index positions (start_at rollback c) < 0 = h in omega (arith, low)
 
     none : (list : ℕ) → slice_index_or told list None ≡ None
     none list = ap (λ ts. slice_index_or ts list None) told_is ∙ replicate_at None (length positions) list
@@ -123,7 +133,7 @@ spread_begins limit old positions c start told made begun told_is made_is = reco
     nothing p n e = absurd cc
 
 -- the command came to the last place
-pub record IsDone (limit : ℕ) (old : List Node) (positions : List ℕ) (c : Command) (start : Option ℕ) (nodes : List Node) (told : List (Option DeltaModel)) (made : Made) : Type 0 where
+pub record IsDone (limit : ℕ) (old : List Node) (positions : List ℕ) (c : Command) (nodes : List Node) (told : List (Option DeltaModel)) (made : Made) : Type 0 where
   pub moves : unmoved limit (state_of old positions) c ≡ None
   pub state : state_of nodes positions ≡ wave (state_of old positions) (command c)
   pub told_is : AreTold (state_of old positions) c told
@@ -136,10 +146,10 @@ take_nodes [] (suc n) e = refl
 take_nodes (m ∷ nodes) zero e = absurd (omega (arith, e))
 take_nodes (m ∷ nodes) (suc n) e = ap (λ xs. m ∷ xs) (take_nodes nodes n (omega (arith, e)))
 
-pub spread_ends : (limit : ℕ) (old : List Node) (positions : List ℕ) (c : Command) (start : Option ℕ) (nodes : List Node) (told : List (Option DeltaModel)) (made : Made)
-    → IsSpread limit old positions c start (length old) nodes told made → IsDone limit old positions c start nodes told made
-spread_ends limit old positions c start nodes told made h = record {
-  moves = unmoved_by limit old positions c start h.begun ∙ (ap (λ r. option_or r (too_long limit w)) inside ∙ few);
+pub spread_ends : (limit : ℕ) (old : List Node) (positions : List ℕ) (c : Command) (rollback : Option Rollback) (nodes : List Node) (told : List (Option DeltaModel)) (made : Made)
+    → IsSpread limit old positions c rollback (length old) nodes told made → IsDone limit old positions c nodes told made
+spread_ends limit old positions c rollback nodes told made h = record {
+  moves = unmoved_by limit old positions c rollback h.begun ∙ (ap (λ r. option_or r (too_long limit w)) inside ∙ few);
   state = state;
   told_is = record {
     long = h.told_to.long ∙ sym (long_state old positions);
@@ -149,7 +159,7 @@ spread_ends limit old positions c start nodes told made h = record {
     few_lists = g.few_lists;
     few = g.few;
     placed = placed;
-    ordered = subst IsOrdered (sym state) (wave_ordered s (command c) g.ordered);
+    sound = subst IsSound (sym state) (graph_sound limit old positions c g h.begun.suits inside);
     order = ap dependency_order state ∙ (wave_order s (command c) ∙ (g.order ∙ sym t.numbers_are));
     settled = subst (λ xs. AreSettled xs positions) (take_nodes nodes (length old) long_nodes) t.settled;
     limited = t.limited;
@@ -167,7 +177,7 @@ spread_ends limit old positions c start nodes told made h = record {
     g : IsGraph limit old positions
     g = h.begun.graph
 
-    t : AreInverse limit old positions c start (length old) nodes
+    t : AreInverse limit old positions c rollback (length old) nodes
     t = h.inverted
 
     long_numbers : (ns : List Node) → length (numbers ns) ≡ length ns
@@ -185,11 +195,10 @@ spread_ends limit old positions c start nodes told made h = record {
     placed list within = record { within = within; there = subst (λ xs. slice_get xs (slice_index positions list) ≡ Some list) (sym t.numbers_are) (g.placed list within).there }
 
     inside : refusal s c ≡ None
-    inside = t.inside (subst (λ o. HasBegun positions o (length old)) (sym (start_about limit old positions c start h.begun))
-        (position_low (about c) (omega (arith, h.begun.within, long_state old positions))))
+    inside = t.inside (position_low (start_at rollback c) (start_within limit old positions c rollback h.begun))
 
     few : too_long limit w ≡ None
-    few = few_shown limit (table_of w) (dependency_order w) (λ y among. prefix_few limit old positions c start (length old) nodes h.begun t y
+    few = few_shown limit (table_of w) (dependency_order w) (λ y among. prefix_few limit old positions c rollback (length old) nodes h.begun t y
         (subst (λ xs. Contains xs y) (sym (ap (λ n. take n (numbers old)) (sym (long_numbers old)) ∙ take_all (numbers old))) (subst (λ xs. Contains xs y) (wave_order s (command c) ∙ g.order) among)))
 
     same : (list : ℕ) → list < length w → own_at (state_of nodes positions) list ≡ own_at w list

@@ -1,21 +1,10 @@
--- What doesn't change isn't told on, and a change that is none leaves a list as it was.
+-- A change that is none leaves a list as it was.
 use Rattle.std.proofs.Common.{◌≡◌, ◌∙◌, ℕ, zero, suc, List, [], ◌∷◌, length, refl, ap, arith}
 use Rattle.spec_states.specs.Tree.{Tree}
 use Rattle.spec_states.specs.Delta.{no_change}
 use Rattle.spec_states.specs.Leads.{IsDelta, applied}
 use Rattle.spec_states.proofs.DeltaLeads.{length_from}
 use Rattle.spec_states.proofs.Lengths.{old_len-identity}
-use Rattle.spec_states.specs.Shown.{shown_of}
-use Rattle.spec_states.specs.Wave.{follow}
-use Rattle.spec_states.proofs.Quiet as states
-use Rattle.gl_graph.specs.declared.keeps.Keeps.{Keeps}
-use Rattle.gl_graph.specs.Nodes.{own_of, AreAmong}
-use Rattle.gl_graph.proofs.Plain.{inward, own_plain}
-use Rattle.gl_graph.proofs.WholeWaves.{unheld}
-
-pub follow_same : (keeps : Keeps) (shows : ℕ → List Tree) → AreAmong keeps → follow (own_of keeps) shows (λ i. no_change (length (shows i))) ≡ no_change (length (shown_of (own_of keeps) shows))
-follow_same keeps shows among =
-    states.follow_same (own_of keeps) shows (λ i. no_change (length (shows i))) (inward keeps among) (unheld (own_of keeps) (own_plain keeps among)) (λ i c. refl)
 
 -- what a change that is none leads to is what it starts from
 none_applied : (n : ℕ) (xs : List Tree) → length xs ≡ n → applied (no_change n) xs ≡ xs

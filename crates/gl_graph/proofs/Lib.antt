@@ -1,7 +1,7 @@
 pub mod MemberChanges
 pub mod MemberDeltas
 pub mod NoMore
-pub mod Plain
+pub mod Inputs
 pub mod Shown
 pub mod Edits
 pub mod Prefixes
@@ -9,6 +9,7 @@ pub mod Openings
 pub mod Positions
 pub mod Built
 pub mod Dispatch
+pub mod Sources
 pub mod Starts
 pub mod Rooms
 pub mod Alike
@@ -16,12 +17,18 @@ pub mod Progress
 pub mod Taken
 pub mod Identities
 pub mod WholeWaves
+pub mod Rollbacks
+pub mod HeldSteps
+pub mod Parts
 pub mod Sets
 pub mod Next
+pub mod Turns
+pub mod Stills
+pub mod Ready
 pub mod Spreads
 pub mod Tellings
 pub mod Refusals
 pub mod Ends
 pub mod Steps
 pub mod Splits
-pub mod Follows
+pub mod Standing

@@ -22,7 +22,7 @@ use Rattle.gl_graph.specs.declared.spot.Spot.{Spot}
 use Rattle.gl_graph.specs.declared.spot.Spot.TheVariants.{Own, Of, Child}
 use Rattle.gl_graph.specs.Commands.{IsMembershipOf}
 use Rattle.gl_graph.specs.Spots.{OnSpot}
-use Rattle.gl_graph.specs.Spread.{IsRefusalBy}
+use Rattle.gl_graph.specs.Faults.{IsRefusalBy}
 use Rattle.gl_graph.specs.Members.{AreMembers, IsRegroupStopped}
 
 pub flat_map_local : (members : List ℕ) (d e : ℕ → Delta) → ((i : ℕ) → Contains members i → d i ≡ e i) → flat_map d members ≡ flat_map e members

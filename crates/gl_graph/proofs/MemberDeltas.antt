@@ -1,5 +1,5 @@
 -- A composite follows what is told of its members.
-use Rattle.std.proofs.Common.{◌≡◌, ◌≢◌, ◌∙◌, ◌<◌, ◌≤◌, ◌↔◌, ℕ, List, [], ◌∷◌, length, map, refl, ap, sym, subst, inr, arith}
+use Rattle.std.proofs.Common.{◌≡◌, ◌∙◌, ◌<◌, ◌≤◌, ℕ, List, [], ◌∷◌, length, map, refl, ap, sym, subst, arith}
 use Rattle.std.specs.Prelude.{slice_index_or, Option, Some, None, Result, Err}
 use Rattle.std.specs.List.{All, Contains}
 use Rattle.std.proofs.lemmas.List.Elements.{All-contains}
@@ -9,7 +9,6 @@ use Rattle.spec_states.specs.Piece.{normal, old_len, new_len}
 use Rattle.spec_states.specs.Delta.{no_change}
 use Rattle.spec_states.specs.Leads.{LeadsTo, IsDelta, undone}
 use Rattle.spec_states.specs.Composite.{composite_view, composite_follow}
-use Rattle.spec_states.specs.Command.{Command}
 use Rattle.spec_states.specs.State.{composite}
 use Rattle.spec_states.proofs.DeltaLeads.{length_from, leads_back_to, delta_to, undone_no_change}
 use Rattle.gl_source.specs.Model.{DeltaModel}
@@ -25,7 +24,8 @@ use Rattle.gl_graph.specs.declared.keeps.Keeps.TheVariants.{Composite}
 use Rattle.gl_graph.specs.declared.keeps.KeepsUndo.TheVariants as u
 use Rattle.gl_graph.specs.Undos.{of_composite}
 use Rattle.gl_graph.specs.Members.{IsAnyTold}
-use Rattle.gl_graph.specs.Spread.{delta_of, delta_told, shown_before, IsStep, IsStopped, IsRefusalBy}
+use Rattle.gl_graph.specs.Spread.{delta_of, delta_told, shown_before, IsFollowing, IsOtherStopped}
+use Rattle.gl_graph.specs.Faults.{IsRefusalBy}
 use Rattle.gl_graph.proofs.MemberChanges.{flat_map_local}
 
 -- what is told of a list is its change from what it showed before
@@ -93,25 +93,22 @@ pub record HasFollowed (deltas : List (Option DeltaModel)) (shows : ℕ → List
   pub list_room : old.list_room ≤ new.list_room
   pub undo_is : IsUndo undo old new
 
-pub followed : (start list : ℕ) (shows : ℕ → List Tree) (c : Command) (deltas : List (Option DeltaModel)) (needed : List ℕ) (old new : Kept) (out : DeltaModel) (undo : CompositeUndo)
-    → list ≢ start → IsAnyTold deltas needed → HasFollowed deltas shows old new out undo
-    → IsStep (Some start) shows c deltas list (Composite needed old) (Composite needed new) (Some (out, u.Composite undo))
-followed start list shows c deltas needed old new out undo other told h = inr (
-  λ e. other (same e),
-  record {
-    reached = record { input = told.list; among = told.among; d = told.d; told = told.told };
-    inverted = record {
-      told = h.told ∙ ap normal (flat_map_local old.lists (deltas_of deltas (shown_before deltas shows)) (delta_told deltas shows) (λ i d. delta_same deltas shows i));
+pub followed : (shows : ℕ → List Tree) (deltas : List (Option DeltaModel)) (needed : List ℕ) (old new : Kept) (out : DeltaModel) (undo : CompositeUndo)
+    → IsAnyTold deltas needed → HasFollowed deltas shows old new out undo
+    → IsFollowing shows deltas (Composite needed old) (Composite needed new) out (u.Composite undo)
+followed shows deltas needed old new out undo told h = record {
+  reached = record { input = told.list; among = told.among; d = told.d; told = told.told };
+  free = refl;
+  told = record {
+    told = h.told ∙ ap normal (flat_map_local old.lists (deltas_of deltas (shown_before deltas shows)) (delta_told deltas shows) (λ i d. delta_same deltas shows i));
+    turned = record {
       stands = h.stands;
       own_is = ap (composite needed) h.lists;
       limit = ap (λ (n : ℕ). Some n) h.limit;
-      undo = record { back = ap (of_composite needed) h.undo_is.back; room = record { kept = h.room; members = h.list_room; sorted = omega arith; firsts = omega arith }; can = h.undo_is.can };
+      is_undo = record { back = ap (of_composite needed) h.undo_is.back; room = record { kept = h.room; members = h.list_room; sorted = omega arith; firsts = omega arith }; can = h.undo_is.can };
     };
-  },
-)
-  where
-    same : Some start ≡ Some list → list ≡ start
-    same e = cc
+  };
+}
 
 -- how long it would be
 pub long_later : (deltas : List (Option DeltaModel)) (shows : ℕ → List Tree) (lists lens : List ℕ) → lens ≡ map (λ i. length (shown_before deltas shows i)) lists
@@ -121,21 +118,14 @@ long_later deltas shows lists lens stood can =
     ∙ shown_is shows lists (new_lens deltas lists lens) (new_lens_are deltas (shown_before deltas shows) shows lists lens stood (each_delta deltas shows lists can))
 
 -- why it doesn't follow
-pub not_followed : {X : Type 0} (r : Result X KernelFault) (start list : ℕ) (shows : ℕ → List Tree) (c : Command) (deltas : List (Option DeltaModel)) (needed : List ℕ) (old : Kept)
-    (fault : KernelFault) (why : Refused) → list ≢ start → IsAnyTold deltas needed
+pub not_followed : {X : Type 0} (r : Result X KernelFault) (list : ℕ) (shows : ℕ → List Tree) (deltas : List (Option DeltaModel)) (needed : List ℕ) (old : Kept)
+    (fault : KernelFault) (why : Refused) → IsAnyTold deltas needed
     → ((len : ℕ) → r ≡ Err (k.TooLong len) → (old.limit < len) × (len ≡ length (composite_view old.lists shows)))
-    → r ≡ Err fault → IsRefusalBy list fault why → (limit : ℕ) → old.limit ≡ limit → IsStopped limit (Some start) shows c deltas list (composite needed old.lists) why
-not_followed r start list shows c deltas needed old k.Memory why other told long is by limit limited =
-    subst (IsStopped limit (Some start) shows c deltas list (composite needed old.lists)) (sym by) tt
-not_followed r start list shows c deltas needed old (k.TooLong len) why other told long is by limit limited =
+    → r ≡ Err fault → IsRefusalBy list fault why → (limit : ℕ) → old.limit ≡ limit → IsOtherStopped limit shows deltas list (composite needed old.lists) why
+not_followed r list shows deltas needed old k.Memory why told long is by limit limited = subst (IsOtherStopped limit shows deltas list (composite needed old.lists)) (sym by) tt
+not_followed r list shows deltas needed old (k.TooLong len) why told long is by limit limited =
     let both = long len is in
-    subst (IsStopped limit (Some start) shows c deltas list (composite needed old.lists)) (sym by) (
+    subst (IsOtherStopped limit shows deltas list (composite needed old.lists)) (sym by) (
       refl,
-      inr (
-        λ e. other (same e),
-        (record { input = told.list; among = told.among; d = told.d; told = told.told }, record { past = subst (λ n. n < len) limited both.0; len_is = both.1 }),
-      ),
+      ((record { input = told.list; among = told.among; d = told.d; told = told.told }, refl), record { past = subst (λ n. n < len) limited both.0; len_is = both.1 }),
     )
-  where
-    same : Some start ≡ Some list → list ≡ start
-    same e = cc

@@ -12,7 +12,7 @@ use Rattle.spec_states.proofs.Views.{IsInward, shown_local, shown_in, length-tab
 use Rattle.gl_graph.specs.declared.node.Node.{Node}
 use Rattle.gl_graph.specs.Nodes.{own_of, own_in, state_of, numbers, shown_by, OnInput, IsPlaced, AreInTurn, IsSettled, AreSettled, StandsFor}
 use Rattle.gl_graph.specs.Graph.{IsGraph}
-use Rattle.gl_graph.proofs.Plain.{inward, each_input, stands_local}
+use Rattle.gl_graph.proofs.Inputs.{inward, each_input, stands_local}
 use Rattle.gl_graph.proofs.Shown.{turn_shows, placed_before}
 
 -- the node of a number

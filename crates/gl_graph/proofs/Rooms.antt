@@ -17,7 +17,11 @@ use Rattle.gl_graph.specs.declared.derived.Derived.TheVariants as d
 use Rattle.gl_graph.specs.declared.derived.DerivedUndo.{DerivedUndo}
 use Rattle.gl_graph.specs.declared.derived.DerivedUndo.TheVariants as du
 use Rattle.gl_graph.specs.declared.keeps.Keeps.{Keeps}
-use Rattle.gl_graph.specs.declared.keeps.Keeps.TheVariants.{Source, Over, Composite}
+use Rattle.gl_graph.specs.declared.keeps.Keeps.TheVariants.{Source, Over, Composite, Held}
+use Rattle.gl_graph.specs.declared.held.Held.{Held as HeldList}
+use Rattle.gl_graph.specs.declared.held.Held.TheVariants as h
+use Rattle.gl_graph.specs.Held as held
+use Rattle.gl_held.specs.declared.undo.HeldUndo.{HeldUndo}
 use Rattle.gl_graph.specs.declared.keeps.KeepsUndo.{KeepsUndo}
 use Rattle.gl_graph.specs.declared.keeps.KeepsUndo.TheVariants as u
 use Rattle.gl_graph.specs.Derived as derived
@@ -27,7 +31,7 @@ use Rattle.gl_graph.specs.Nodes.{own_of, OnInput, AreAmong, StandsFor}
 use Rattle.gl_graph.specs.Graph.{IsLimit, IsLimited}
 use Rattle.gl_graph.specs.Room.{Room, room, sorted_room, classes_room, IsNoMore}
 use Rattle.gl_graph.proofs.NoMore.{no_more}
-use Rattle.gl_graph.specs.Undos.{Contents, of_source, of_over, of_composite, contents, room_of, room_back, before, CanRetreat}
+use Rattle.gl_graph.specs.Undos.{Contents, of_source, of_over, of_composite, of_held, contents, room_of, room_back, before, CanRetreat}
 
 -- how much classes have room for
 abbrev classes_rooms : Room → Rooms
@@ -144,16 +148,24 @@ derived_in_more undo r s c h can = absurd can
 abbrev composite_in : Room → composite_stands.Contents → composite_kept.Kept
 composite_in room c = record { limit = c.limit; lists = c.lists; lens = c.lens; list_room = room.members; room = room.kept }
 
+-- the list that can be held of these contents that has so much room
+abbrev held_with : Room → held.Contents → HeldList
+held_with room (held.of_transaction levels) = h.Transaction (record { levels = levels; room = room.kept })
+held_with room (held.of_freezable since) = h.Freezable since
+
 -- what a list keeps of these contents that has so much room
 abbrev with_room : Room → Contents → Keeps
 with_room room (of_source values limit) = Source (record { values = values; limit = limit; room = room.kept })
 with_room room (of_over input c) = Over input (derived_with room c)
 with_room room (of_composite needed c) = Composite needed (composite_in room c)
+with_room room (of_held input c) = Held input (held_with room c)
 
 its_own : (k : Keeps) → with_room (room_of k) (contents k) ≡ k
 its_own (Source k) = refl
 its_own (Over input o) = ap (Over input) (derived_own o)
 its_own (Composite needed k) = refl
+its_own (Held input (h.Transaction t)) = refl
+its_own (Held input (h.Freezable since)) = refl
 
 -- what holds whatever the room holds of all lists of the same contents
 carried : (P : Keeps → Type 0) → ((r s : Room) (c : Contents) → P (with_room r c) → P (with_room s c)) → (a b : Keeps)
@@ -169,7 +181,9 @@ own_same a b e = carried (λ k. own_of a ≡ own_of k) any a b e refl
     any : (r s : Room) (c : Contents) → own_of a ≡ own_of (with_room r c) → own_of a ≡ own_of (with_room s c)
     any r s (of_source values limit) h = h
     any r s (of_over input c) h = h ∙ ap (over input) (derived_view r s c)
-    any r s (of_composite needed c) h = h
+    any r s (of_composite needed c) e = e
+    any r s (of_held input (held.of_transaction levels)) e = e
+    any r s (of_held input (held.of_freezable since)) e = e
 
 pub stands_same : (shows : ℕ → List Tree) (a b : Keeps) → contents a ≡ contents b → StandsFor a shows
     → StandsFor b shows
@@ -178,7 +192,9 @@ stands_same shows a b e h = carried (λ k. StandsFor k shows) any a b e h
     any : (r s : Room) (c : Contents) → StandsFor (with_room r c) shows → StandsFor (with_room s c) shows
     any r s (of_source values limit) h = h
     any r s (of_over input c) h = derived_stands (shows input) r s c h
-    any r s (of_composite needed c) h = h
+    any r s (of_composite needed c) e = e
+    any r s (of_held input (held.of_transaction levels)) e = e
+    any r s (of_held input (held.of_freezable since)) e = e
 
 pub limited_same : (limit : ℕ) (a b : Keeps) → contents a ≡ contents b → IsLimited limit a → IsLimited limit b
 limited_same limit a b e h = carried (λ k. IsLimited limit k) any a b e h
@@ -187,6 +203,7 @@ limited_same limit a b e h = carried (λ k. IsLimited limit k) any a b e h
     any r s (of_source values most) h = h
     any r s (of_over input c) h = subst (IsLimit limit) (derived_limit r s c) h
     any r s (of_composite needed c) h = h
+    any r s (of_held input c) h = h
 
 pub on_input_same : (P : ℕ → Type 0) (a b : Keeps) → contents a ≡ contents b → OnInput P a → OnInput P b
 on_input_same P a b e h = carried (λ k. OnInput P k) any a b e h
@@ -195,6 +212,7 @@ on_input_same P a b e h = carried (λ k. OnInput P k) any a b e h
     any r s (of_source values limit) h = h
     any r s (of_over input c) h = h
     any r s (of_composite needed c) h = h
+    any r s (of_held input c) h = h
 
 -- an undo makes the same of lists of the same contents
 pub before_same : (undo : KeepsUndo) (a b : Keeps) → contents a ≡ contents b → before undo a ≡ before undo b
@@ -208,6 +226,14 @@ before_same undo a b e = carried (λ k. before undo a ≡ before undo k) (λ r s
     same_contents input r s (of_range c) = refl
     same_contents input r s (of_function c) = refl
     same_contents input r s (of_collection c) = refl
+
+    same_held : (input : ℕ) (r s : Room) (c : held.Contents) → contents (Held input (held_with r c)) ≡ contents (Held input (held_with s c))
+    same_held input r s (held.of_transaction levels) = refl
+    same_held input r s (held.of_freezable since) = refl
+
+    held_before : (undo : HeldUndo) (r s : Room) (c : held.Contents) → held.before undo (held_with r c) ≡ held.before undo (held_with s c)
+    held_before undo r s (held.of_transaction levels) = refl
+    held_before undo r s (held.of_freezable since) = refl
 
     same_step : (step : Step) (needed : List ℕ) (r s : Room) (c : composite_stands.Contents) → composite_stands.stepped step (composite_in r c) ≡ composite_stands.stepped step (composite_in s c)
     same_step (Attached at) needed r s c = refl
@@ -224,6 +250,14 @@ before_same undo a b e = carried (λ k. before undo a ≡ before undo k) (λ r s
     any (u.Composite undo) r s (of_source values limit) = refl
     any (u.Composite undo) r s (of_over input c) = same_contents input r s c
     any (u.Composite undo) r s (of_composite needed c) = ap (of_composite needed) (same_step undo.step needed r s c)
+    any (u.Held undo) r s (of_source values limit) = refl
+    any (u.Held undo) r s (of_over input c) = same_contents input r s c
+    any (u.Held undo) r s (of_composite needed c) = refl
+    any (u.Held undo) r s (of_held input c) = ap (of_held input) (held_before undo r s c)
+    any u.Unchanged r s (of_source values limit) = refl
+    any u.Unchanged r s (of_over input c) = same_contents input r s c
+    any u.Unchanged r s (of_composite needed c) = refl
+    any other r s (of_held input c) = same_held input r s c
 
 -- an undo can be taken of the one list as of the other, and leaves no less room there
 pub record CanAlso (undo : KeepsUndo) (a b : Keeps) : Type 0 where
@@ -259,12 +293,28 @@ in_more (u.Composite undo) r s (of_composite needed c) h can = record {
     stepped_within (Attached at) r s c h = h
     stepped_within (Detached at list len) r s c h = h
     stepped_within (Advanced log) r s c h = h
+in_more (u.Held undo) r s (of_held input (held.of_transaction levels)) h can = record {
+  can = record { has = can.has; joined = can.joined; room = omega (arith, can.room, h.kept) };
+  room = kept_alone r s h;
+}
+in_more (u.Held undo) r s (of_held input (held.of_freezable since)) h can = record { can = can; room = no_more _ }
+in_more u.Unchanged r s (of_held input (held.of_transaction levels)) h can = record { can = tt; room = kept_alone r s h }
+in_more u.Unchanged r s (of_held input (held.of_freezable since)) h can = record { can = tt; room = no_more _ }
 in_more (u.Source undo) r s (of_over input c) h can = absurd can
 in_more (u.Source undo) r s (of_composite needed c) h can = absurd can
 in_more (u.Over undo) r s (of_source values limit) h can = absurd can
 in_more (u.Over undo) r s (of_composite needed c) h can = absurd can
 in_more (u.Composite undo) r s (of_source values limit) h can = absurd can
 in_more (u.Composite undo) r s (of_over input c) h can = absurd can
+in_more (u.Source undo) r s (of_held input c) h can = absurd can
+in_more (u.Over undo) r s (of_held input c) h can = absurd can
+in_more (u.Composite undo) r s (of_held input c) h can = absurd can
+in_more (u.Held undo) r s (of_source values limit) h can = absurd can
+in_more (u.Held undo) r s (of_over input c) h can = absurd can
+in_more (u.Held undo) r s (of_composite needed c) h can = absurd can
+in_more u.Unchanged r s (of_source values limit) h can = absurd can
+in_more u.Unchanged r s (of_over input c) h can = absurd can
+in_more u.Unchanged r s (of_composite needed c) h can = absurd can
 
 -- what can go back can do so in more room
 pub retreat_same : (undo : KeepsUndo) (a b : Keeps) → contents a ≡ contents b → IsNoMore (room_of a) (room_of b)
@@ -282,6 +332,7 @@ pub on_input_more : {P Q : ℕ → Type 0} → ((i : ℕ) → P i → Q i) → (
 on_input_more f (Source k) h = h
 on_input_more f (Over input o) h = f input h
 on_input_more {P} {Q} f (Composite needed k) h = All-weaker P Q f needed h
+on_input_more f (Held input k) h = f input h
 
 -- the members of a composite go by its contents
 pub among_same : (a b : Keeps) → contents a ≡ contents b → AreAmong a → AreAmong b
@@ -291,3 +342,4 @@ among_same a b e h = carried AreAmong any a b e h
     any r s (of_source values limit) h = h
     any r s (of_over input c) h = h
     any r s (of_composite needed c) h = h
+    any r s (of_held input c) h = h

@@ -1,5 +1,5 @@
 -- Nodes of which one keeps something else.
-use Rattle.std.proofs.Common.{◌≡◌, ◌≢◌, ◌∙◌, ℕ, zero, suc, ◌<◌, ◌≤◌, Bool, true, false, List, [], ◌∷◌, length, take, refl, ap, sym, subst, arith, eqb}
+use Rattle.std.proofs.Common.{◌≡◌, ◌≢◌, ◌∙◌, ℕ, zero, suc, ◌<◌, Bool, true, false, List, [], ◌∷◌, length, take, refl, ap, sym, subst, eqb}
 use Rattle.std.specs.Prelude.{Option, Some, None, slice_get, slice_set, slice_index}
 use Rattle.std.specs.List.{Contains}
 use Rattle.std.proofs.lemmas.Bool.{eqb-true, eqb-false}
@@ -13,7 +13,7 @@ use Rattle.gl_graph.specs.Undos.{contents, room_of}
 use Rattle.gl_graph.proofs.NoMore.{no_more_on}
 use Rattle.gl_graph.specs.Waves.{before_one, before_all, room_one, undo_at, CanGoBack, CanAllGoBack, HaveRoomBack}
 use Rattle.gl_graph.specs.Spread.{IsSetAt}
-use Rattle.gl_graph.proofs.Plain.{each_input, on_inputs}
+use Rattle.gl_graph.proofs.Inputs.{each_input, on_inputs}
 use Rattle.gl_graph.proofs.Shown.{numbers_prefix}
 use Rattle.gl_graph.proofs.Taken.{undo_here, undo_there, undo_none}
 

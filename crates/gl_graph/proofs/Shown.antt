@@ -17,11 +17,12 @@ use Rattle.spec_states.proofs.Settled.{settled_is}
 use Rattle.spec_states.proofs.Views.{shown_local}
 use Rattle.gl_graph.specs.declared.spot.Spot.{Spot}
 use Rattle.gl_graph.specs.Spots.{spotted}
+use Rattle.gl_graph.specs.declared.len.Len.{Len}
+use Rattle.gl_graph.specs.Lens.{measured}
 use Rattle.gl_graph.specs.declared.keeps.Keeps.{Keeps}
-use Rattle.gl_graph.specs.declared.keeps.Keeps.TheVariants.{Source, Over}
 use Rattle.gl_graph.specs.declared.node.Node.{Node}
 use Rattle.gl_graph.specs.Nodes.{own_of, own_of_node, own_in, state_of, numbers, shown_by, OnInput, StandsFor, IsPlaced, IsInTurn, AreInTurn, AreSettled}
-use Rattle.gl_graph.proofs.Plain.{own_at_state, state_inward, each_input, on_inputs}
+use Rattle.gl_graph.proofs.Inputs.{own_at_state, state_inward, each_input, on_inputs}
 
 pub own_of_turn : (nodes : List Node) (positions : List ℕ) (position : ℕ) (node : Node) → slice_get nodes position ≡ Some node → IsInTurn nodes positions position node → own_at (state_of nodes positions) node.list ≡ own_of node.keeps
 own_of_turn nodes positions position node is turn =
@@ -112,9 +113,10 @@ list_shows nodes positions list node h is same =
     (turn_shows nodes positions (slice_index positions list) node (order_of_settled nodes positions h) is)
 
 -- how many elements it shows
-pub len_shows : (nodes : List Node) (positions : List ℕ) (list : ℕ) (node : Node) (n : ℕ) → AreSettled nodes positions → slice_get nodes (slice_index positions list) ≡ Some node → node.list ≡ list
-    → ((shows : ℕ → List Tree) → StandsFor node.keeps shows → n ≡ length (shown_of (own_of node.keeps) shows)) → n ≡ length (shown_by nodes positions list)
-len_shows nodes positions list node n h is same len =
+pub measured_shows : (nodes : List Node) (positions : List ℕ) (list : ℕ) (node : Node) (at : Len) → AreSettled nodes positions → slice_get nodes (slice_index positions list) ≡ Some node → node.list ≡ list
+    → ((shows : ℕ → List Tree) → StandsFor node.keeps shows → measured at shows ≡ length (shown_of (own_of node.keeps) shows))
+    → measured at (shown_by nodes positions) ≡ length (shown_by nodes positions list)
+measured_shows nodes positions list node at h is same len =
     len (shown_by nodes positions) (h (slice_index positions list) node is).stands ∙ ap length (sym (list_shows nodes positions list node h is same))
 
 -- where its element stands

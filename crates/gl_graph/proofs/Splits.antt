@@ -6,7 +6,8 @@ use Rattle.spec_states.specs.Command.{Command}
 use Rattle.gl_source.specs.Model.{DeltaModel}
 use Rattle.gl_graph.specs.declared.keeps.Keeps.{Keeps}
 use Rattle.gl_graph.specs.declared.node.Node.{Node}
-use Rattle.gl_graph.specs.declared.keeps.KeepsUndo.{KeepsUndo}
+use Rattle.gl_graph.specs.declared.turned.Turned.{Turned}
+use Rattle.gl_graph.specs.declared.rollback.Rollback.{Rollback}
 use Rattle.gl_graph.specs.declared.graph.Refused.{Refused}
 use Rattle.gl_graph.specs.Nodes.{shown_by}
 use Rattle.gl_graph.specs.Spread.{IsTried, IsTriedAt}
@@ -38,12 +39,12 @@ set_back nodes prefix back position len now whole long len_is =
     let whole_len : len ≡ length xs = len_is ∙ (sym (set_long nodes position now) ∙ ap length same) in
     ap (λ n. take n (xs ++ drop (length xs) nodes)) whole_len ∙ (take-append_seam xs (drop (length xs) nodes) ∙ sym same)
 
-pub tried_at : (start : Option ℕ) (positions : List ℕ) (c : Command) (deltas : List (Option DeltaModel)) (position len : ℕ) (nodes prefix back : List Node) (was first : Node) (new : Keeps)
-    (result : Result (Option (DeltaModel × KeepsUndo)) Refused) → nodes ≡ prefix ++ back → prefix ≡ take position nodes → length prefix ≡ position → len ≡ length nodes → slice_get nodes position ≡ Some was → first ≡ was
-    → IsTried start (shown_by prefix positions) c deltas first.list first.keeps new result
-    → IsTriedAt start positions c deltas position nodes
+pub tried_at : (rollback : Option Rollback) (positions : List ℕ) (c : Command) (deltas : List (Option DeltaModel)) (position len : ℕ) (nodes prefix back : List Node) (was first : Node) (new : Keeps)
+    (result : Result Turned Refused) → nodes ≡ prefix ++ back → prefix ≡ take position nodes → length prefix ≡ position → len ≡ length nodes → slice_get nodes position ≡ Some was → first ≡ was
+    → IsTried rollback (shown_by prefix positions) c deltas first.list first.keeps new result
+    → IsTriedAt rollback positions c deltas position nodes
     (take len ((prefix ++ slice_set back 0 (record { list = first.list; keeps = new })) ++ drop (length (prefix ++ slice_set back 0 (record { list = first.list; keeps = new }))) nodes)) result
-tried_at start positions c deltas position len nodes prefix back was first new result whole prefix_is long len_is there same tried = record {
+tried_at rollback positions c deltas position len nodes prefix back was first new result whole prefix_is long len_is there same tried = record {
   was = was;
   now = record { list = first.list; keeps = new };
   set = record {
@@ -51,6 +52,6 @@ tried_at start positions c deltas position len nodes prefix back was first new r
     is = set_back nodes prefix back position len (record { list = first.list; keeps = new }) whole long len_is;
     list = ap (λ (n : Node). n.list) same;
   };
-  tried = subst (λ (n : Node). IsTried start (shown_by (take position nodes) positions) c deltas n.list n.keeps new result) same
-      (subst (λ ns. IsTried start (shown_by ns positions) c deltas first.list first.keeps new result) prefix_is tried);
+  tried = subst (λ (n : Node). IsTried rollback (shown_by (take position nodes) positions) c deltas n.list n.keeps new result) same
+      (subst (λ ns. IsTried rollback (shown_by ns positions) c deltas first.list first.keeps new result) prefix_is tried);
 }

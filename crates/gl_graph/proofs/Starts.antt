@@ -24,7 +24,7 @@ use Rattle.spec_states.specs.State.{Own, State, inputs, opening_of, own_at, edge
 use Rattle.spec_states.specs.Opening.{seen_through, shown_first, opening}
 use Rattle.spec_states.specs.Shown.{Table, shown_of, shown, shows_in, table_of}
 use Rattle.spec_states.specs.Step.{first_longer, too_long}
-use Rattle.spec_states.specs.Laws.{IsOrdered}
+use Rattle.spec_states.specs.Laws.{IsOrdered, IsSound}
 use Rattle.spec_states.proofs.DependencyOrder.{ordered, order_follow}
 use Rattle.spec_states.proofs.Views.{Inward, IsInward, shown_local, shown_in, inputs_as_declared}
 use Rattle.gl_graph.specs.declared.node.Node.{Node}
@@ -35,9 +35,10 @@ use Rattle.gl_graph.specs.Opening.{IsBuilt, IsKindBuilt, AreKindsBuilt}
 use Rattle.gl_graph.specs.Positions.{ArePositions}
 use Rattle.gl_graph.specs.Build.{IsOneMore, IsFault, AreOpened, AreReady, AreOpen, IsReason, opened_lists}
 use Rattle.std.proofs.lemmas.List.Elements.{Contains-append_left}
-use Rattle.gl_graph.proofs.Plain.{own_at_state, on_inputs, all_of}
+use Rattle.gl_graph.proofs.Inputs.{own_at_state, on_inputs, all_of}
 use Rattle.gl_graph.proofs.Shown.{order_of_settled}
 use Rattle.gl_graph.proofs.Prefixes.{node_of, agrees}
+use Rattle.gl_graph.proofs.Sources.{whole_sound}
 use Rattle.gl_graph.proofs.Built.{opened_more}
 use Rattle.gl_graph.proofs.Dispatch.{order_below, placed_in, follow_at, take_next, take_all, take_long, index_of_get}
 use Rattle.spec_states.proofs.Longer.{few_shown}
@@ -52,6 +53,8 @@ built_of P (kinds.Range input bounds) h f = f input (Contains-here input [] inpu
 built_of P (kinds.Function input func) h f = f input (Contains-here input [] input refl)
 built_of P (kinds.Collection input kids) h f = f input (Contains-here input [] input refl)
 built_of P (kinds.Composite members may) h f = all_of P (members ++ may) f
+built_of P (kinds.Transaction input) h f = f input (Contains-here input [] input refl)
+built_of P (kinds.Freezable input) h f = f input (Contains-here input [] input refl)
 built_of P other h f = absurd h
 
 -- the members of a composite are among what it depends on
@@ -66,6 +69,8 @@ seen_inward (kinds.Function input func) h = tt
 seen_inward (kinds.Collection input kids) h = tt
 seen_inward (kinds.Composite members may) h =
     all_of (λ member. Contains (members ++ may) member) members (λ i c. Contains-append_left members may i c)
+seen_inward (kinds.Transaction input) h = tt
+seen_inward (kinds.Freezable input) h = tt
 seen_inward other h = absurd h
 
 seen_opening : (shows : ℕ → List Tree) (kind : ListKind) → IsKindBuilt kind → opening_of shows kind ≡ seen_through kind
@@ -78,6 +83,8 @@ seen_opening shows (kinds.Range input bounds) h = refl
 seen_opening shows (kinds.Function input func) h = refl
 seen_opening shows (kinds.Collection input kids) h = refl
 seen_opening shows (kinds.Composite members may) h = refl
+seen_opening shows (kinds.Transaction input) h = refl
+seen_opening shows (kinds.Freezable input) h = refl
 seen_opening shows other h = absurd h
 
 built_rest : (d : ListDecl) (lists : List ListDecl) → AreKindsBuilt (d ∷ lists) → AreKindsBuilt lists
@@ -150,7 +157,7 @@ ready_of p positions order h built is long are = record {
   few_lists = h.few_lists;
   few = omega (arith, h.limit.few);
   built = built;
-  ordered = whole_ordered p h;
+  sound = subst IsSound (opening_is p built) (whole_sound p h (subst IsOrdered (sym (opening_is p built)) (whole_ordered p h)));
   order_is = plan_order p order h is;
   long = long;
   positions_are = are;
@@ -159,7 +166,7 @@ ready_of p positions order h built is long are = record {
 order_of : (limit : ℕ) (lists : List ListDecl) (positions order : List ℕ) → AreReady limit lists positions order → IsOrder (length lists) (edges_of (opened_lists lists)) order
 order_of limit lists positions order ready =
     let s : State = opened_lists lists in
-    subst (λ n. IsOrder n (edges_of s) order) (long_opened lists) (subst (IsOrder (length s) (edges_of s)) (sym ready.order_is) (ordered s ready.ordered))
+    subst (λ n. IsOrder n (edges_of s) order) (long_opened lists) (subst (IsOrder (length s) (edges_of s)) (sym ready.order_is) (ordered s ready.sound.ordered))
 
 -- the lists that are open so far have their places
 prefix_placed : (limit : ℕ) (lists : List ListDecl) (positions order : List ℕ) (nodes : List Node) (k list : ℕ) → AreReady limit lists positions order
@@ -175,7 +182,7 @@ next_inputs limit lists positions order nodes k list d ready numbers_are here th
     let s : State = opened_lists lists in
     let turn : slice_get (dependency_order s) k ≡ Some list = subst (λ xs. slice_get xs k ≡ Some list) ready.order_is here in
     let need : Contains (inputs (own_at s list)) i = subst (λ o. Contains (inputs o) i) (sym (own_opened lists list d there)) c in
-    let before : Contains (take k (dependency_order s)) i = follow_at (λ l. inputs (own_at s l)) [] (dependency_order s) k list (order_follow s ready.ordered) turn i need in
+    let before : Contains (take k (dependency_order s)) i = follow_at (λ l. inputs (own_at s l)) [] (dependency_order s) k list (order_follow s ready.sound.ordered) turn i need in
     prefix_placed limit lists positions order nodes k i ready numbers_are (subst (λ xs. Contains (take k xs) i) (sym ready.order_is) before)
 
 pub next_within : (limit : ℕ) (lists : List ListDecl) (positions order : List ℕ) (k list : ℕ) → AreReady limit lists positions order → slice_get order k ≡ Some list → list < length lists
@@ -235,7 +242,7 @@ longer_at limit t (y ∷ ys) (suc k) x e few more =
 opened_shows : (limit : ℕ) (lists : List ListDecl) (positions order : List ℕ) (nodes : List Node) (k list : ℕ) → AreReady limit lists positions order
     → AreOpened limit (opened_lists lists) positions order k nodes → IsPlaced nodes positions list → shown_by nodes positions list ≡ shown (opened_lists lists) list
 opened_shows limit lists positions order nodes k list ready opened placed =
-    agrees nodes positions (opened_lists lists) (order_of_settled nodes positions opened.settled) ready.ordered (opened_inward lists ready.built) (long_opened lists ∙ sym ready.long) opened.own list placed
+    agrees nodes positions (opened_lists lists) (order_of_settled nodes positions opened.settled) ready.sound.ordered (opened_inward lists ready.built) (long_opened lists ∙ sym ready.long) opened.own list placed
 
 opened_few : (limit : ℕ) (lists : List ListDecl) (positions order : List ℕ) (nodes : List Node) (k : ℕ) → AreReady limit lists positions order
     → AreOpened limit (opened_lists lists) positions order k nodes → (list : ℕ) → Contains (take k order) list → length (shown (opened_lists lists) list) ≤ limit
@@ -258,7 +265,7 @@ next_reason limit lists positions order nodes k list d (TooLong number n) ready 
     let own = own_opened lists list d there in
     let same : shown_of (seen_through d.kind) (shown_by nodes positions) ≡ shown s list =
     shown_local (seen_through d.kind) (seen_inward d.kind (ready.built list d there)) (shown_by nodes positions) (shown s) (λ i c. opened_shows limit lists positions order nodes k i ready opened (next_inputs limit lists positions order nodes k list d ready opened.order_is here there i c))
-    ∙ (ap (λ o. shown_of o (shown s)) (sym own) ∙ sym (shown_in s ready.ordered (opened_inward lists ready.built) list (omega (arith, below, index, long_opened lists)))) in
+    ∙ (ap (λ o. shown_of o (shown s)) (sym own) ∙ sym (shown_in s ready.sound.ordered (opened_inward lists ready.built) list (omega (arith, below, index, long_opened lists)))) in
     let more : limit < length (shown s list) = subst (λ xs. limit < length xs) same fault.2 in
     let long : n ≡ length (shown s list) = fault.1 ∙ ap length same in
     ap (first_longer limit (table_of s)) (sym ready.order_is)
@@ -284,7 +291,7 @@ all_open limit lists positions order nodes ready opened = record {
     few_lists = omega (arith, ready.long, ready.few_lists);
     few = ready.few;
     placed = λ list within. placed list (omega (arith, within, ready.long));
-    ordered = subst IsOrdered (sym state_is) ready.ordered;
+    sound = subst IsSound (sym state_is) ready.sound;
     order = ap dependency_order state_is ∙ (sym ready.order_is ∙ sym numbers_are);
     settled = opened.settled;
     limited = opened.limited;

@@ -1,30 +1,34 @@
 -- One place further: what was tried there is told, kept for the way back, or the reason why the command is refused.
 use Rattle.std.proofs.Common.{◌≡◌, ◌≢◌, ◌∙◌, ℕ, zero, suc, ◌<◌, ◌≤◌, List, [], ◌∷◌, ◌++◌, length, take, replicate, refl, ap, sym, subst, arith}
 use Rattle.std.proofs.lemmas.List.{length-map}
-use Rattle.spec_states.specs.Tree.{Tree}
 use Rattle.std.specs.Prelude.{Option, Some, None, Result, Ok, Err, IfErr, OnOk, OnErr, slice_get, slice_set, slice_index, slice_index_or}
+use Rattle.std.specs.List.{Contains}
 use Rattle.spec_states.specs.Command.{Command}
 use Rattle.gl_source.specs.Model.{DeltaModel}
+use Rattle.spec_states.specs.Plan.{origin as about}
 use Rattle.spec_states.specs.Shown.{shown_of}
 use Rattle.gl_graph.specs.declared.node.Node.{Node}
 use Rattle.gl_graph.specs.declared.keeps.KeepsUndo.{KeepsUndo}
+use Rattle.gl_graph.specs.declared.turned.Turned.{Turned}
+use Rattle.gl_graph.specs.declared.turned.Turned.TheVariants.{Stays, Silent, Told}
+use Rattle.gl_graph.specs.declared.rollback.Rollback.{Rollback}
 use Rattle.gl_graph.specs.declared.graph.Refused.{Refused}
-use Rattle.gl_graph.specs.Nodes.{own_of, state_of, shown_by, StandsFor}
-use Rattle.spec_states.specs.Plan.{origin as about}
-use Rattle.spec_states.specs.State.{own_at}
-use Rattle.gl_graph.specs.Commands.{Suits}
-use Rattle.gl_graph.specs.Graph.{IsGraph}
+use Rattle.gl_graph.specs.Nodes.{own_of, state_of, shown_by, OnInput, StandsFor, IsPlaced, AreSettled}
+use Rattle.gl_graph.specs.Rollbacks.{IsSourceOf, start_at}
 use Rattle.gl_graph.specs.Room.{IsNoMore}
 use Rattle.gl_graph.specs.Undos.{contents, room_of}
 use Rattle.gl_graph.proofs.NoMore.{no_more}
 use Rattle.gl_graph.specs.Waves.{Made, by_position, AreApart, IsRefused, before_one, room_one, CanGoBack}
-use Rattle.gl_graph.specs.Spread.{HasBegun, IsTriedAt, IsSetAt, CanTurnAt, IsPut, IsOver, IsBegun, IsSpread, LeadBack, HaveBack}
-use Rattle.gl_graph.proofs.Plain.{long_state, on_inputs}
-use Rattle.gl_graph.proofs.WholeWaves.{starts_at}
+use Rattle.gl_graph.specs.Spread.{HasBegun, IsStep, IsTriedAt, IsSetAt, CanTurnAt, StandAt, len_by, shown_len_at, IsPut, IsOver, IsBegun, IsSpread, LeadBack, HaveBack}
+use Rattle.gl_graph.proofs.Inputs.{each_input, on_inputs}
 use Rattle.gl_graph.proofs.Taken.{placed_last, apart_more}
-use Rattle.gl_graph.proofs.Sets.{set_here, set_there, set_long, set_numbers, set_again, back_set, can_set, room_set}
-use Rattle.gl_graph.proofs.Next.{IsNext, begun_later, next_of, can_turn}
-use Rattle.gl_graph.proofs.Spreads.{on_by, still_by, on_shows, inverse_more}
+use Rattle.gl_graph.proofs.Sets.{set_here, set_there, set_prefix, set_long, set_numbers, set_again, back_set, can_set, room_set}
+use Rattle.gl_graph.proofs.Rollbacks.{start_within, not_before}
+use Rattle.gl_graph.proofs.Next.{IsTurn, turn_of, begun_later}
+use Rattle.gl_graph.proofs.Turns.{IsOn, IsStill, IsOnBy, told_by}
+use Rattle.gl_graph.proofs.Stills.{quiet_by, as_it_was}
+use Rattle.gl_graph.proofs.Ready.{can_turn}
+use Rattle.gl_graph.proofs.Spreads.{on_shows, inverse_more}
 use Rattle.gl_graph.proofs.Tellings.{told_still, told_put}
 use Rattle.gl_graph.proofs.Refusals.{stop_refused, over_refused}
 use Rattle.gl_graph.proofs.Ends.{shown_few, nodes_few, start_low, spread_begins}
@@ -85,89 +89,90 @@ waits_same nodes others made q was now set waiting p high within =
     ∙ waiting p (omega (arith, high)) (omega (arith, within, long_set nodes others q was now set))
 
 -- the node whose turn it is, as it was tried
-pub tried_next : (limit : ℕ) (old : List Node) (positions : List ℕ) (c : Command) (start : Option ℕ) (q : ℕ) (nodes : List Node) (told : List (Option DeltaModel)) (made : Made) (was : Node)
-    → IsSpread limit old positions c start q nodes told made → slice_get nodes q ≡ Some was → IsNext old positions c q nodes was
-tried_next limit old positions c start q nodes told made was h at = next_of limit old positions c start q nodes was h.begun h.inverted at
+turn_in : {limit : ℕ} {old : List Node} {positions : List ℕ} {c : Command} {rollback : Option Rollback} {q : ℕ} {nodes : List Node} {told : List (Option DeltaModel)} {made : Made} (was : Node)
+    → IsSpread limit old positions c rollback q nodes told made → slice_get nodes q ≡ Some was → IsTurn limit old positions c rollback q nodes told was
+turn_in was h at = turn_of was h.begun h.inverted h.told_to at
 
-waits_here : (limit : ℕ) (old : List Node) (positions : List ℕ) (c : Command) (start : Option ℕ) (q : ℕ) (nodes : List Node) (told : List (Option DeltaModel)) (made : Made) → q < length nodes
-    → IsSpread limit old positions c start q nodes told made → slice_get (by_position (length nodes) made) q ≡ Some None
-waits_here limit old positions c start q nodes told made within h = h.waiting q (omega arith) within
+waits_here : {limit : ℕ} {old : List Node} {positions : List ℕ} {c : Command} {rollback : Option Rollback} {q : ℕ} {nodes : List Node} {told : List (Option DeltaModel)} {made : Made} → q < length nodes
+    → IsSpread limit old positions c rollback q nodes told made → slice_get (by_position (length nodes) made) q ≡ Some None
+waits_here {q = q} within h = h.waiting q (omega arith) within
+
+-- a list that shows what it did is within the limit
+still_few : {limit : ℕ} {old : List Node} {positions : List ℕ} {c : Command} {rollback : Option Rollback} {q : ℕ} {nodes : List Node} {told : List (Option DeltaModel)} {was now : Node}
+    → IsTurn limit old positions c rollback q nodes told was → IsOn old positions c rollback q nodes was now → IsStill old positions c was
+    → length (shown_of (own_of now.keeps) (shown_by (take q nodes) positions)) ≤ limit
+still_few {limit = limit} {old = old} {positions = positions} {was = was} t on still =
+    subst (λ xs. length xs ≤ limit) (sym (on_shows t on ∙ still.same)) (shown_few limit old positions t.begun.graph was.list t.next.turn.within)
 
 -- it stays
-pub none_more : (limit : ℕ) (old : List Node) (positions : List ℕ) (c : Command) (start : Option ℕ) (q : ℕ) (nodes others : List Node) (told : List (Option DeltaModel)) (made : Made) → q < length nodes
-    → IsTriedAt start positions c told q nodes others (Ok None) → IsSpread limit old positions c start q nodes told made → IsSpread limit old positions c start (suc q) others told made
-none_more limit old positions c start q nodes others told made within tried h =
+pub none_more : {limit : ℕ} {old : List Node} {positions : List ℕ} {c : Command} {rollback : Option Rollback} {q : ℕ} {nodes : List Node} {told : List (Option DeltaModel)} {made : Made} (others : List Node) → q < length nodes
+    → IsTriedAt rollback positions c told q nodes others (Ok Stays) → IsSpread limit old positions c rollback q nodes told made → IsSpread limit old positions c rollback (suc q) others told made
+none_more {old = old} {q = q} {nodes = nodes} {made = made} others within tried h =
     let was = tried.was in
     let now = tried.now in
-    let next = tried_next limit old positions c start q nodes told made was h tried.set.there in
-    let waits = waits_here limit old positions c start q nodes told made within h in
-    let still = still_by limit old positions c start q nodes was now told h.begun h.told_to next tried.tried.ok in
-    let shows = on_shows limit old positions c start q nodes was now h.begun next still.on in
-    let low : was.list < length positions = next.turn.within in
-    let few : length (shown_of (own_of now.keeps) (shown_by (take q nodes) positions)) ≤ limit = subst (λ xs. length xs ≤ limit) (sym (shows ∙ still.same)) (shown_few limit old positions h.begun.graph was.list low) in
+    let t = turn_in was h tried.set.there in
+    let same = as_it_was t tried.tried.ok in
     record {
       begun = h.begun;
-      inverted = inverse_more limit old positions c start q nodes others was now h.begun h.inverted next tried.set still.on few;
-      told_to = told_still limit old positions c start q nodes was told h.begun h.told_to next still.told still.same;
-      back = have_same old nodes others made q was now h.back tried.set waits (ap contents tried.tried.ok.1.same)
-          (subst (λ k. IsNoMore (room_of was.keeps) (room_of k)) (sym tried.tried.ok.1.same) (no_more (room_of was.keeps)));
+      inverted = inverse_more others t tried.set same.on (still_few t same.on same.still);
+      told_to = told_still t same.still;
+      back = have_same old nodes others made q was now h.back tried.set (waits_here within h) (ap contents same.keeps_is)
+          (subst (λ k. IsNoMore (room_of was.keeps) (room_of k)) (sym same.keeps_is) (no_more (room_of was.keeps)));
       waiting = waits_same nodes others made q was now tried.set h.waiting;
     }
 
--- it is told of
-pub some_more : (limit : ℕ) (old : List Node) (positions : List ℕ) (c : Command) (start : Option ℕ) (q : ℕ) (nodes others : List Node) (told after : List (Option DeltaModel)) (made : Made)
-    (done : DeltaModel × KeepsUndo) → q < length nodes → (tried : IsTriedAt start positions c told q nodes others (Ok (Some done))) → IsPut tried.was.list done.0 told after
-    → length (shown_of (own_of tried.now.keeps) (shown_by (take q nodes) positions)) ≤ limit
-    → IsSpread limit old positions c start q nodes told made → IsSpread limit old positions c start (suc q) others after (made ++ (q, done.1) ∷ [])
-some_more limit old positions c start q nodes others told after made done within tried put few h =
+-- the way back where it changed
+back_by : {limit : ℕ} {old : List Node} {positions : List ℕ} {c : Command} {rollback : Option Rollback} {q : ℕ} {nodes : List Node} {told : List (Option DeltaModel)} {made : Made} (others : List Node) (was now : Node) (undo : KeepsUndo) → q < length nodes → IsSetAt q nodes others was now
+    → IsOnBy old positions c rollback q nodes was now undo → IsSpread limit old positions c rollback q nodes told made → HaveBack old others (made ++ (q, undo) ∷ [])
+back_by {old = old} {q = q} {nodes = nodes} {made = made} others was now undo within set by h =
+    have_more old nodes others made q was now undo h.back set (waits_here within h) by.undo_is.back by.undo_is.can by.undo_is.room
+
+-- it keeps something else in silence
+pub silent_more : {limit : ℕ} {old : List Node} {positions : List ℕ} {c : Command} {rollback : Option Rollback} {q : ℕ} {nodes : List Node} {told : List (Option DeltaModel)} {made : Made} (others : List Node) (undo : KeepsUndo) → q < length nodes
+    → IsTriedAt rollback positions c told q nodes others (Ok (Silent undo)) → IsSpread limit old positions c rollback q nodes told made
+    → IsSpread limit old positions c rollback (suc q) others told (made ++ (q, undo) ∷ [])
+silent_more {q = q} {nodes = nodes} {made = made} others undo within tried h =
     let was = tried.was in
     let now = tried.now in
-    let next = tried_next limit old positions c start q nodes told made was h tried.set.there in
-    let waits = waits_here limit old positions c start q nodes told made within h in
-    let on = on_by limit old positions c start q nodes was now told done h.begun h.inverted h.told_to next tried.tried.ok in
+    let t = turn_in was h tried.set.there in
+    let quiet = quiet_by t tried.tried.ok in
     record {
       begun = h.begun;
-      inverted = inverse_more limit old positions c start q nodes others was now h.begun h.inverted next tried.set on.on few;
-      told_to = told_put limit old positions c start q nodes was now told after done h.begun h.told_to next on put;
-      back = have_more old nodes others made q was now done.1 h.back tried.set waits on.undo.back on.undo.can on.undo.room;
-      waiting = waits_more nodes others made q was now done.1 tried.set h.waiting;
+      inverted = inverse_more others t tried.set quiet.by.on (still_few t quiet.by.on quiet.still);
+      told_to = told_still t quiet.still;
+      back = back_by others was now undo within tried.set quiet.by h;
+      waiting = waits_more nodes others made q was now undo tried.set h.waiting;
     }
 
--- it has become too long
-pub over_back : (limit : ℕ) (old : List Node) (positions : List ℕ) (c : Command) (start : Option ℕ) (q : ℕ) (nodes others : List Node) (told : List (Option DeltaModel)) (made : Made)
-    (done : DeltaModel × KeepsUndo) → q < length nodes → IsTriedAt start positions c told q nodes others (Ok (Some done)) → IsSpread limit old positions c start q nodes told made
-    → HaveBack old others (made ++ (q, done.1) ∷ [])
-over_back limit old positions c start q nodes others told made done within tried h =
+-- it is told of
+pub told_more : {limit : ℕ} {old : List Node} {positions : List ℕ} {c : Command} {rollback : Option Rollback} {q : ℕ} {nodes : List Node} {told : List (Option DeltaModel)} {made : Made} (others : List Node) (after : List (Option DeltaModel)) (d : DeltaModel) (undo : KeepsUndo) → q < length nodes
+    → (tried : IsTriedAt rollback positions c told q nodes others (Ok (Told d undo))) → IsPut tried.was.list d told after
+    → length (shown_of (own_of tried.now.keeps) (shown_by (take q nodes) positions)) ≤ limit → IsSpread limit old positions c rollback q nodes told made
+    → IsSpread limit old positions c rollback (suc q) others after (made ++ (q, undo) ∷ [])
+told_more {q = q} {nodes = nodes} {made = made} others after d undo within tried put few h =
     let was = tried.was in
     let now = tried.now in
-    let next = tried_next limit old positions c start q nodes told made was h tried.set.there in
-    let waits = waits_here limit old positions c start q nodes told made within h in
-    let on = on_by limit old positions c start q nodes was now told done h.begun h.inverted h.told_to next tried.tried.ok in
-    have_more old nodes others made q was now done.1 h.back tried.set waits on.undo.back on.undo.can on.undo.room
-
-pub over_reason : (limit : ℕ) (old : List Node) (positions : List ℕ) (c : Command) (start : Option ℕ) (q : ℕ) (nodes others : List Node) (told : List (Option DeltaModel)) (made : Made)
-    (done : DeltaModel × KeepsUndo) (why : Refused) → (tried : IsTriedAt start positions c told q nodes others (Ok (Some done)))
-    → IsOver limit tried.was.list (length (shown_of (own_of tried.now.keeps) (shown_by (take q nodes) positions))) why
-    → IsSpread limit old positions c start q nodes told made → IsRefused limit (state_of old positions) c why
-over_reason limit old positions c start q nodes others told made done why tried over h =
-    let was = tried.was in
-    let now = tried.now in
-    let next = tried_next limit old positions c start q nodes told made was h tried.set.there in
-    let on = on_by limit old positions c start q nodes was now told done h.begun h.inverted h.told_to next tried.tried.ok in
-    over_refused limit old positions c start q nodes was now done why h.begun h.inverted next on over
+    let t = turn_in was h tried.set.there in
+    let on = told_by {now = tried.now} t tried.tried.ok in
+    record {
+      begun = h.begun;
+      inverted = inverse_more others t tried.set on.by.on few;
+      told_to = told_put after t on put;
+      back = back_by others was now undo within tried.set on.by h;
+      waiting = waits_more nodes others made q was now undo tried.set h.waiting;
+    }
 
 -- it isn't turned
-pub stop_back : (limit : ℕ) (old : List Node) (positions : List ℕ) (c : Command) (start : Option ℕ) (q : ℕ) (nodes others : List Node) (told : List (Option DeltaModel)) (made : Made) (why : Refused)
-    → q < length nodes → IsTriedAt start positions c told q nodes others (Err why) → IsSpread limit old positions c start q nodes told made → HaveBack old others made
-stop_back limit old positions c start q nodes others told made why within tried h =
-    have_same old nodes others made q tried.was tried.now h.back tried.set (waits_here limit old positions c start q nodes told made within h) tried.tried.err tried.tried.room
+pub stop_back : {limit : ℕ} {old : List Node} {positions : List ℕ} {c : Command} {rollback : Option Rollback} {q : ℕ} {nodes : List Node} {told : List (Option DeltaModel)} {made : Made} (others : List Node) (why : Refused)
+    → q < length nodes → IsTriedAt rollback positions c told q nodes others (Err why) → IsSpread limit old positions c rollback q nodes told made → HaveBack old others made
+stop_back {old = old} {q = q} {nodes = nodes} {made = made} others why within tried h =
+    have_same old nodes others made q tried.was tried.now h.back tried.set (waits_here within h) tried.tried.err tried.tried.room
 
-pub stop_reason : (limit : ℕ) (old : List Node) (positions : List ℕ) (c : Command) (start : Option ℕ) (q : ℕ) (nodes others : List Node) (told : List (Option DeltaModel)) (made : Made) (why : Refused)
-    → IsTriedAt start positions c told q nodes others (Err why) → IsSpread limit old positions c start q nodes told made → IsRefused limit (state_of old positions) c why
-stop_reason limit old positions c start q nodes others told made why tried h =
+pub stop_reason : {limit : ℕ} {old : List Node} {positions : List ℕ} {c : Command} {rollback : Option Rollback} {q : ℕ} {nodes : List Node} {told : List (Option DeltaModel)} {made : Made} (others : List Node) (why : Refused)
+    → IsTriedAt rollback positions c told q nodes others (Err why) → IsSpread limit old positions c rollback q nodes told made → IsRefused limit (state_of old positions) c why
+stop_reason {limit = limit} {q = q} others why tried h =
     let was = tried.was in
-    let next = tried_next limit old positions c start q nodes told made was h tried.set.there in
-    stop_refused limit old positions c start q nodes was told why h.begun h.inverted h.told_to next (tried.tried.stopped limit (h.inverted.limited q was tried.set.there))
+    stop_refused why (turn_in was h tried.set.there) (tried.tried.stopped limit (h.inverted.limited q was tried.set.there))
 
 -- the node at a place can be tried
 record HasNode (nodes : List Node) (q : ℕ) : Type 0 where
@@ -179,121 +184,148 @@ has_node [] q within = absurd (omega (arith, within))
 has_node (n ∷ nodes) zero within = record { node = n; there = refl }
 has_node (n ∷ nodes) (suc q) within = let h = has_node nodes q (omega (arith, within)) in record { node = h.node; there = h.there }
 
-pub spread_order : (limit : ℕ) (old : List Node) (positions : List ℕ) (c : Command) (start : Option ℕ) (q : ℕ) (nodes : List Node) (told : List (Option DeltaModel)) (made : Made) → q < length nodes
-    → IsSpread limit old positions c start q nodes told made → CanTurnAt start positions c told q nodes
-spread_order limit old positions c start q nodes told made within h =
+pub spread_order : {limit : ℕ} {old : List Node} {positions : List ℕ} {c : Command} {rollback : Option Rollback} {q : ℕ} {nodes : List Node} {told : List (Option DeltaModel)} {made : Made} → q < length nodes
+    → IsSpread limit old positions c rollback q nodes told made → CanTurnAt rollback positions c told q nodes
+spread_order {q = q} {nodes = nodes} within h =
     let at = has_node nodes q within in
-    can_turn limit old positions c start q nodes at.node told h.begun h.inverted h.told_to at.there
+    can_turn (turn_in at.node h at.there) at.there
 
--- what is needed to tell of it
-pub node_within : (positions : List ℕ) (c : Command) (start : Option ℕ) (q : ℕ) (nodes others : List Node) (told : List (Option DeltaModel)) (r : Result (Option (DeltaModel × KeepsUndo)) Refused) → q < length nodes
-    → IsTriedAt start positions c told q nodes others r → q < length others
-node_within positions c start q nodes others told r within tried = omega (arith, within, ap length tried.set.is ∙ set_long nodes q tried.now)
+-- ---- what is needed to tell of it
 
-node_here : (positions : List ℕ) (c : Command) (start : Option ℕ) (q : ℕ) (nodes others : List Node) (told : List (Option DeltaModel)) (r : Result (Option (DeltaModel × KeepsUndo)) Refused)
-    → (tried : IsTriedAt start positions c told q nodes others r) → slice_get others q ≡ Some tried.now
-node_here positions c start q nodes others told r tried = ap (λ ns. slice_get ns q) tried.set.is ∙ set_here nodes q tried.was tried.now tried.set.there
+pub node_within : {positions : List ℕ} {c : Command} {rollback : Option Rollback} {q : ℕ} {nodes : List Node} {told : List (Option DeltaModel)} (others : List Node) (r : Result Turned Refused) → q < length nodes
+    → IsTriedAt rollback positions c told q nodes others r → q < length others
+node_within {q = q} {nodes = nodes} others r within tried = omega (arith, within, ap length tried.set.is ∙ set_long nodes q tried.now)
 
-pub node_listed : (limit : ℕ) (old : List Node) (positions : List ℕ) (c : Command) (start : Option ℕ) (q : ℕ) (nodes others : List Node) (told : List (Option DeltaModel)) (made : Made)
-    (r : Result (Option (DeltaModel × KeepsUndo)) Refused) → IsTriedAt start positions c told q nodes others r → IsSpread limit old positions c start q nodes told made
+node_here : {positions : List ℕ} {c : Command} {rollback : Option Rollback} {q : ℕ} {nodes : List Node} {told : List (Option DeltaModel)} (others : List Node) (r : Result Turned Refused)
+    → (tried : IsTriedAt rollback positions c told q nodes others r) → slice_get others q ≡ Some tried.now
+node_here {q = q} {nodes = nodes} others r tried = ap (λ ns. slice_get ns q) tried.set.is ∙ set_here nodes q tried.was tried.now tried.set.there
+
+pub node_listed : {limit : ℕ} {old : List Node} {positions : List ℕ} {c : Command} {rollback : Option Rollback} {q : ℕ} {nodes : List Node} {told : List (Option DeltaModel)} {made : Made} (others : List Node)
+    (r : Result Turned Refused) → IsTriedAt rollback positions c told q nodes others r → IsSpread limit old positions c rollback q nodes told made
     → (node : Node) → slice_get others q ≡ Some node → node.list < length told
-node_listed limit old positions c start q nodes others told made r tried h node at =
-    let next = tried_next limit old positions c start q nodes told made tried.was h tried.set.there in
-    let both : Some tried.now ≡ Some node = sym (node_here positions c start q nodes others told r tried) ∙ at in
+node_listed {positions = positions} {told = told} others r tried h node at =
+    let t = turn_in tried.was h tried.set.there in
+    let both : Some tried.now ≡ Some node = sym (node_here others r tried) ∙ at in
     let one : tried.now ≡ node = cc in
-    let low : tried.was.list < length positions = next.turn.within in
+    let low : tried.was.list < length positions = t.next.turn.within in
     subst (λ (n : Node). n.list < length told) one (omega (arith, low, tried.set.list, h.told_to.long))
 
--- what comes of it
-pub some_ok : {R : Type 0} (limit : ℕ) (old : List Node) (positions : List ℕ) (c : Command) (start : Option ℕ) (q : ℕ) (nodes others : List Node) (told after : List (Option DeltaModel)) (made kept : Made)
-    (done : DeltaModel × KeepsUndo) (r : Result R Refused) → q < length nodes → IsTriedAt start positions c told q nodes others (Ok (Some done)) → kept ≡ made ++ (q, done.1) ∷ []
-    → ((node : Node) → slice_get others q ≡ Some node → IsPut node.list done.0 told after)
-    → ((node : Node) (shows : ℕ → List Tree) → slice_get others q ≡ Some node → StandsFor node.keeps shows → OnOk r (length (shown_of (own_of node.keeps) shows) ≤ limit))
-    → IsSpread limit old positions c start q nodes told made → OnOk r (IsSpread limit old positions c start (suc q) others after kept)
-some_ok limit old positions c start q nodes others told after made kept done (Err why) within tried kept_is put short h = tt
-some_ok limit old positions c start q nodes others told after made kept done (Ok x) within tried kept_is put short h =
+-- the nodes before it
+prefix_same : (q : ℕ) (nodes others : List Node) (was now : Node) → IsSetAt q nodes others was now → take q others ≡ take q nodes
+prefix_same q nodes others was now set = ap (take q) set.is ∙ set_prefix nodes q now
+
+-- it stands for what they show
+pub stand_at : {limit : ℕ} {old : List Node} {positions : List ℕ} {c : Command} {rollback : Option Rollback} {q : ℕ} {nodes : List Node} {told : List (Option DeltaModel)} {made : Made} (others : List Node) (d : DeltaModel) (undo : KeepsUndo) → q < length nodes
+    → IsTriedAt rollback positions c told q nodes others (Ok (Told d undo)) → IsSpread limit old positions c rollback q nodes told made → StandAt positions q others
+stand_at {positions = positions} {q = q} {nodes = nodes} others d undo within tried h =
     let was = tried.was in
     let now = tried.now in
-    let next = tried_next limit old positions c start q nodes told made was h tried.set.there in
-    let on = on_by limit old positions c start q nodes was now told done h.begun h.inverted h.told_to next tried.tried.ok in
-    let here = node_here positions c start q nodes others told (Ok (Some done)) tried in
-    let few : length (shown_of (own_of now.keeps) (shown_by (take q nodes) positions)) ≤ limit = short now (shown_by (take q nodes) positions) here on.on.stands in
-    subst (λ us. IsSpread limit old positions c start (suc q) others after us) (sym kept_is)
-    (some_more limit old positions c start q nodes others told after made done within tried (subst (λ l. IsPut l done.0 told after) tried.set.list (put now here)) few h)
+    let t = turn_in was h tried.set.there in
+    let on = told_by {now = tried.now} t tried.tried.ok in
+    let same = prefix_same q nodes others was now tried.set in
+    record {
+      settled = subst (λ ns. AreSettled ns positions) (sym same) h.inverted.settled;
+      node = now;
+      there = node_here others (Ok (Told d undo)) tried;
+      later = subst (λ ns. OnInput (IsPlaced ns positions) now.keeps) (sym same)
+          (on_inputs (IsPlaced (take q nodes) positions) now.keeps (λ i e. each_input (IsPlaced (take q nodes) positions) was.keeps i t.next.turn.later (subst (λ is. Contains is i) on.by.on.inputs_are e)));
+      stands = subst (λ ns. StandsFor now.keeps (shown_by ns positions)) (sym same) on.by.on.stands;
+    }
 
-pub some_refused : {R : Type 0} (limit : ℕ) (old : List Node) (positions : List ℕ) (c : Command) (start : Option ℕ) (q : ℕ) (nodes others : List Node) (told : List (Option DeltaModel)) (made : Made)
-    (done : DeltaModel × KeepsUndo) (r : Result R Refused) → IsTriedAt start positions c told q nodes others (Ok (Some done))
-    → ((node : Node) (shows : ℕ → List Tree) → slice_get others q ≡ Some node → StandsFor node.keeps shows → IfErr r (IsOver limit node.list (length (shown_of (own_of node.keeps) shows))))
-    → IsSpread limit old positions c start q nodes told made → IfErr r (IsRefused limit (state_of old positions) c)
-some_refused limit old positions c start q nodes others told made done (Ok x) tried over h = tt
-some_refused limit old positions c start q nodes others told made done (Err why) tried over h =
+-- and shows so many elements
+len_at : {positions : List ℕ} {c : Command} {rollback : Option Rollback} {q : ℕ} {nodes : List Node} {told : List (Option DeltaModel)} (others : List Node) (r : Result Turned Refused)
+    → (tried : IsTriedAt rollback positions c told q nodes others r)
+    → shown_len_at positions q others ≡ length (shown_of (own_of tried.now.keeps) (shown_by (take q nodes) positions))
+len_at {positions = positions} {q = q} {nodes = nodes} others r tried =
+    ap (λ o. len_by o (shown_by (take q others) positions)) (node_here others r tried)
+    ∙ ap (λ ns. len_by (Some tried.now) (shown_by ns positions)) (prefix_same q nodes others tried.was tried.now tried.set)
+
+-- ---- what comes of it
+
+pub told_ok : {R : Type 0} {limit : ℕ} {old : List Node} {positions : List ℕ} {c : Command} {rollback : Option Rollback} {q : ℕ} {nodes : List Node} {told : List (Option DeltaModel)} {made : Made} (others : List Node) (after : List (Option DeltaModel)) (d : DeltaModel) (undo : KeepsUndo) (r : Result R Refused) → q < length nodes
+    → IsTriedAt rollback positions c told q nodes others (Ok (Told d undo)) → ((node : Node) → slice_get others q ≡ Some node → IsPut node.list d told after)
+    → OnOk r (shown_len_at positions q others ≤ limit) → IsSpread limit old positions c rollback q nodes told made
+    → OnOk r (IsSpread limit old positions c rollback (suc q) others after (made ++ (q, undo) ∷ []))
+told_ok others after d undo (Err why) within tried put short h = tt
+told_ok {limit = limit} {told = told} others after d undo (Ok x) within tried put short h =
+    let here = node_here others (Ok (Told d undo)) tried in
+    told_more others after d undo within tried (subst (λ l. IsPut l d told after) tried.set.list (put tried.now here))
+    (subst (λ n. n ≤ limit) (len_at others (Ok (Told d undo)) tried) short) h
+
+pub told_refused : {R : Type 0} {limit : ℕ} {old : List Node} {positions : List ℕ} {c : Command} {rollback : Option Rollback} {q : ℕ} {nodes : List Node} {told : List (Option DeltaModel)} {made : Made} (others : List Node) (d : DeltaModel) (undo : KeepsUndo) (r : Result R Refused)
+    → IsTriedAt rollback positions c told q nodes others (Ok (Told d undo))
+    → ((node : Node) → slice_get others q ≡ Some node → IfErr r (IsOver limit node.list (shown_len_at positions q others)))
+    → IsSpread limit old positions c rollback q nodes told made → IfErr r (IsRefused limit (state_of old positions) c)
+told_refused others d undo (Ok x) tried over h = tt
+told_refused {limit = limit} {positions = positions} {q = q} {nodes = nodes} others d undo (Err why) tried over h =
     let was = tried.was in
     let now = tried.now in
-    let next = tried_next limit old positions c start q nodes told made was h tried.set.there in
-    let on = on_by limit old positions c start q nodes was now told done h.begun h.inverted h.told_to next tried.tried.ok in
-    let here = node_here positions c start q nodes others told (Ok (Some done)) tried in
-    let long = over now (shown_by (take q nodes) positions) here on.on.stands in
-    over_reason limit old positions c start q nodes others told made done why tried
-    (subst (λ l. IsOver limit l (length (shown_of (own_of now.keeps) (shown_by (take q nodes) positions))) why) tried.set.list long) h
+    let t = turn_in was h tried.set.there in
+    let on = told_by {now = tried.now} t tried.tried.ok in
+    over_refused undo why t on.by
+    (subst (λ l. IsOver limit l (length (shown_of (own_of now.keeps) (shown_by (take q nodes) positions))) why) tried.set.list (subst (λ n. IsOver limit now.list n why) (len_at others (Ok (Told d undo)) tried) (over now (node_here others (Ok (Told d undo)) tried))))
 
-pub some_back : {R : Type 0} (limit : ℕ) (old : List Node) (positions : List ℕ) (c : Command) (start : Option ℕ) (q : ℕ) (nodes others : List Node) (told : List (Option DeltaModel)) (made kept : Made)
-    (done : DeltaModel × KeepsUndo) (r : Result R Refused) → q < length nodes → IsTriedAt start positions c told q nodes others (Ok (Some done)) → kept ≡ made ++ (q, done.1) ∷ []
-    → IsSpread limit old positions c start q nodes told made → OnErr r (HaveBack old others kept)
-some_back limit old positions c start q nodes others told made kept done (Ok x) within tried kept_is h = tt
-some_back limit old positions c start q nodes others told made kept done (Err why) within tried kept_is h =
-    subst (HaveBack old others) (sym kept_is) (over_back limit old positions c start q nodes others told made done within tried h)
+pub told_back : {R : Type 0} {limit : ℕ} {old : List Node} {positions : List ℕ} {c : Command} {rollback : Option Rollback} {q : ℕ} {nodes : List Node} {told : List (Option DeltaModel)} {made : Made} (others : List Node) (d : DeltaModel) (undo : KeepsUndo) (r : Result R Refused) → q < length nodes
+    → IsTriedAt rollback positions c told q nodes others (Ok (Told d undo)) → IsSpread limit old positions c rollback q nodes told made → OnErr r (HaveBack old others (made ++ (q, undo) ∷ []))
+told_back others d undo (Ok x) within tried h = tt
+told_back others d undo (Err why) within tried h =
+    let t = turn_in tried.was h tried.set.there in
+    let on = told_by {now = tried.now} t tried.tried.ok in
+    back_by others tried.was tried.now undo within tried.set on.by h
 
-pub position_few : (limit : ℕ) (old : List Node) (positions : List ℕ) (c : Command) (start : Option ℕ) (q : ℕ) (nodes : List Node) (told : List (Option DeltaModel)) (made : Made) → q < length nodes
-    → IsSpread limit old positions c start q nodes told made → q < 4294967296
-position_few limit old positions c start q nodes told made within h =
+pub position_few : {limit : ℕ} {old : List Node} {positions : List ℕ} {c : Command} {rollback : Option Rollback} {q : ℕ} {nodes : List Node} {told : List (Option DeltaModel)} {made : Made} → q < length nodes
+    → IsSpread limit old positions c rollback q nodes told made → q < 4294967296
+position_few {limit = limit} {old = old} {positions = positions} {nodes = nodes} within h =
     let long : length nodes ≡ length old =
     sym (length-map nodes (λ (n : Node). n.list)) ∙ (ap length h.inverted.numbers_are ∙ length-map old (λ (n : Node). n.list)) in
     omega (arith, within, long, nodes_few limit old positions h.begun.graph)
 
+-- ---- how it begins
+
 -- a list before the one where the wave begins stays
-skip_one : (limit : ℕ) (old : List Node) (positions : List ℕ) (c : Command) (start : Option ℕ) (q : ℕ) (nodes : List Node) (told : List (Option DeltaModel)) (made : Made) → q < length nodes
-    → (HasBegun positions start (suc q) → ⊥) → IsSpread limit old positions c start q nodes told made → IsSpread limit old positions c start (suc q) nodes told made
-skip_one limit old positions c start q nodes told made within early h =
+skip_one : {limit : ℕ} {old : List Node} {positions : List ℕ} {c : Command} {rollback : Option Rollback} {q : ℕ} {nodes : List Node} {told : List (Option DeltaModel)} {made : Made} → q < length nodes
+    → (HasBegun positions rollback c (suc q) → ⊥) → IsSpread limit old positions c rollback q nodes told made → IsSpread limit old positions c rollback (suc q) nodes told made
+skip_one {limit = limit} {old = old} {positions = positions} {c = c} {rollback = rollback} {q = q} {nodes = nodes} {told = told} within early h =
     let at = has_node nodes q within in
     let was = at.node in
-    let next = tried_next limit old positions c start q nodes told made was h at.there in
-    none_more limit old positions c start q nodes nodes told made within (record {
+    let t = turn_in was h at.there in
+    none_more nodes within (record {
       was = was;
       now = was;
       set = record { there = at.there; is = sym (set_again nodes q was at.there); list = refl };
       tried = record {
-        ok = (other was next.turn.placed, record { same = refl; untold = on_inputs (λ i. slice_index_or told i None ≡ None) was.keeps (λ i d. h.told_to.quiet (λ b. early (begun_later positions start q b)) i) });
+        ok = IsStep.at_other (not_own was.list t.next.turn.placed) (not_source rollback early was.list t.next.turn.placed)
+            (record { same = refl; untold = on_inputs (λ i. slice_index_or told i None ≡ None) was.keeps (λ i d. h.told_to.quiet (λ b. early (begun_later positions rollback c q b)) i) });
         err = tt;
         stopped = λ most limited. tt;
         room = tt;
       };
     }) h
   where
-    other : (was : Node) → slice_index positions was.list ≡ q → start ≢ Some was.list
-    other was placed e = early (subst (λ o. HasBegun positions o (suc q)) (sym e) (now placed))
+    not_own : (list : ℕ) → slice_index positions list ≡ q → list ≢ about c
+    not_own list placed e = early (low (ap (slice_index positions) (sym e) ∙ placed))
       where
-        now : slice_index positions was.list ≡ q → slice_index positions was.list < suc q
-        now is = omega (arith, is)
+        low : slice_index positions (about c) ≡ q → slice_index positions (start_at rollback c) < suc q
+        low at = omega (arith, at, not_before limit old positions c rollback h.begun)
 
-pub skip_to : (limit : ℕ) (old : List Node) (positions : List ℕ) (c : Command) (list : ℕ) (q : ℕ) (told : List (Option DeltaModel)) (made : Made) → q ≤ slice_index positions list → slice_index positions list < length old
-    → IsSpread limit old positions c (Some list) 0 old told made → IsSpread limit old positions c (Some list) q old told made
-skip_to limit old positions c list zero told made low within h = h
-skip_to limit old positions c list (suc q) told made low within h =
-    skip_one limit old positions c (Some list) q old told made (omega (arith, low, within)) (λ later. omega (arith, later, low))
-    (skip_to limit old positions c list q told made (omega (arith, low)) within h)
+    not_source : (o : Option Rollback) → (HasBegun positions o c (suc q) → ⊥) → (list : ℕ) → slice_index positions list ≡ q → ¬ IsSourceOf list o
+    not_source None far list placed e = absurd e
+    not_source (Some back) far list placed e = far (low (ap (slice_index positions) (sym e) ∙ placed))
+      where
+        low : slice_index positions back.source ≡ q → slice_index positions back.source < suc q
+        low at = omega (arith, at)
+
+pub skip_to : {limit : ℕ} {old : List Node} {positions : List ℕ} {c : Command} {rollback : Option Rollback} {told : List (Option DeltaModel)} {made : Made} (q : ℕ) → q ≤ slice_index positions (start_at rollback c)
+    → slice_index positions (start_at rollback c) < length old
+    → IsSpread limit old positions c rollback 0 old told made → IsSpread limit old positions c rollback q old told made
+skip_to zero low within h = h
+skip_to (suc q) low within h = skip_one (omega (arith, low, within)) (λ later. omega (arith, later, low)) (skip_to q (omega (arith, low)) within h)
 
 -- a command that has come to the list where its wave begins
-pub begins : (limit : ℕ) (old : List Node) (positions : List ℕ) (c : Command) (list : ℕ) (told : List (Option DeltaModel)) (made : Made) → IsGraph limit old positions
-    → about c < length (state_of old positions) → Suits c (own_at (state_of old positions) (about c)) → list ≡ about c → told ≡ replicate (length positions) None → made ≡ []
-    → IsSpread limit old positions c (Some list) (slice_index positions list) old told made
-begins limit old positions c list told made graph within suits same told_is made_is =
-    skip_to limit old positions c list (slice_index positions list) told made (omega arith) (start_low limit old positions list graph (omega (arith, within, same, long_state old positions)))
-    (spread_begins limit old positions c (Some list) told made begun told_is made_is)
-  where
-    begun : IsBegun limit old positions c (Some list)
-    begun = record {
-      graph = graph;
-      within = within;
-      suits = suits;
-      start_is = ap (λ (n : ℕ). Some n) same ∙ sym (starts_at (state_of old positions) c suits);
-    }
+pub begins : (limit : ℕ) (old : List Node) (positions : List ℕ) (c : Command) (rollback : Option Rollback) (told : List (Option DeltaModel)) (made : Made) → IsBegun limit old positions c rollback
+    → told ≡ replicate (length positions) None → made ≡ []
+    → IsSpread limit old positions c rollback (slice_index positions (start_at rollback c)) old told made
+begins limit old positions c rollback told made begun told_is made_is =
+    skip_to (slice_index positions (start_at rollback c)) (omega arith)
+    (start_low limit old positions (start_at rollback c) begun.graph (start_within limit old positions c rollback begun))
+    (spread_begins limit old positions c rollback told made begun told_is made_is)

@@ -1,32 +1,25 @@
--- What a command comes to, list by list.
-use Rattle.std.proofs.Common.{◌≡◌, ◌≢◌, ◌∙◌, ℕ, ◌<◌, ◌==◌, Bool, true, false, List, length, refl, ap, subst, eqb, eq-eqb}
-use Rattle.std.specs.Prelude.{⊤, Option, Some, None, if◌then◌else◌}
+-- What a command comes to as a whole: where its wave begins, that it leads, and what it leaves.
+use Rattle.std.proofs.Common.{◌≡◌, ℕ, List, [], ◌∷◌, refl}
+use Rattle.std.specs.Prelude.{⊤, Option, Some, None}
 use Rattle.std.specs.Option.{option_or}
-use Rattle.std.proofs.lemmas.Bool.{eqb-true}
 use Rattle.spec_states.specs.Tree.{Tree}
-use Rattle.spec_states.specs.Delta.{Delta}
-use Rattle.spec_states.specs.Leads.{applied}
-use Rattle.spec_states.proofs.DeltaLeads.{applied_no_change}
 use Rattle.spec_states.specs.View.{View, filter, sorted, unique, grouping, range, function, collection, Parameter}
 use Rattle.spec_states.specs.Command.{Command}
 use Rattle.spec_states.specs.Command.TheVariants as c
 use Rattle.spec_states.specs.Plan.{origin as about}
-use Rattle.spec_states.specs.State.{Own, State, source, over, composite, own_at}
-use Rattle.spec_states.specs.Shown.{shown, is_held, table_of}
-use Rattle.spec_states.specs.Wave.{command, beginning, first_delta, kept_after, kept_later, parameter_of, delta_in, wave, follow, wave_delta, wave_deltas}
+use Rattle.spec_states.specs.State.{Own, State, source, over, composite, transaction, freezable, proxy, own_at}
+use Rattle.spec_states.specs.Shown.{table_of}
+use Rattle.spec_states.specs.Wave.{command, beginning, parameter_of, kept_after, wave, wave_deltas}
 use Rattle.spec_states.specs.Step.{refusal, refused_by, too_long, unmoved}
-use Rattle.spec_states.specs.Laws.{IsOrdered, IsSound, Lead, MayAttach, MayTake}
-use Rattle.spec_states.proofs.Views.{IsInward, own_at_wave, wave_inward}
+use Rattle.spec_states.specs.Laws.{IsSound, Lead, MayAttach, MayTake, OfTransaction, OfFreezable}
+use Rattle.spec_states.proofs.Views.{IsInward, sound_inward, wave_inward}
+use Rattle.spec_states.proofs.Waves.{IsTaken, wave_leads_by, wave_sound_by}
 use Rattle.gl_graph.specs.declared.node.Node.{Node}
 use Rattle.gl_graph.specs.Nodes.{state_of}
-use Rattle.gl_graph.specs.Commands.{IsEdit, Gives, IsMembershipOf, Suits}
+use Rattle.gl_graph.specs.Commands.{Gives, IsOfLevels, IsOfFreezing, IsNoRollback, Suits}
 use Rattle.gl_graph.specs.Graph.{IsGraph}
-use Rattle.gl_graph.proofs.Shown.{order_of_settled}
-use Rattle.gl_graph.specs.Spread.{start_of}
-use Rattle.gl_graph.proofs.Plain.{IsPlain, state_plain, state_sound, state_inward}
-use Rattle.spec_states.proofs.Waves.{each_follows, wave_leads}
 
--- a command that suits a list edits it, gives it a parameter, or attaches or detaches a member
+-- a command that suits a list over one input gives it a parameter
 abbrev IsGiven : Option Parameter → Type 0
 IsGiven None = ⊥
 IsGiven (Some given) = ⊤
@@ -41,107 +34,113 @@ given (range old) None h = h
 given (function old) None h = h
 given (collection path) None h = h
 
-never : (of : Command) (own : Own) → parameter_of of ≡ None → (IsEdit of → ⊥) → ((needed : List ℕ) → IsMembershipOf needed of → ⊥) → Suits of own → ⊥
-never of (source contents) e f g h = f h
-never of (over input view) e f g h = subst IsGiven e (given view (parameter_of of) h)
-never of (composite needed members) e f g h = g needed h
-never of other e f g h = h
+pub none_given : (view : View) → Gives view None → ⊥
+none_given view h = given view None h
 
--- its wave begins at the list that it is about
-begins_at : (of : Command) (number : ℕ) (own : Own) → Suits of own → beginning of number own ≡ Some number
-begins_at (c.Begin list) number own h = absurd (never (c.Begin list) own refl (λ x. x) (λ n x. x) h)
-begins_at (c.Commit list) number own h = absurd (never (c.Commit list) own refl (λ x. x) (λ n x. x) h)
-begins_at (c.Rollback list) number own h = absurd (never (c.Rollback list) own refl (λ x. x) (λ n x. x) h)
-begins_at (c.Freeze list) number own h = absurd (never (c.Freeze list) own refl (λ x. x) (λ n x. x) h)
-begins_at (c.Show list) number own h = absurd (never (c.Show list) own refl (λ x. x) (λ n x. x) h)
-begins_at other number own h = refl
-
-pub starts_at : (s : State) (c : Command) → Suits c (own_at s (about c)) → start_of s c ≡ Some (about c)
-starts_at s c suits = begins_at c (about c) (own_at s (about c)) suits
-
--- the delta of that list, and of any other
-pub delta_of_start : (s : State) (c : Command) (list : ℕ) → IsSound s → list < length s → list ≡ about c → Suits c (own_at s (about c))
-    → delta_in (wave_deltas s (command c)) list ≡ first_delta c (own_at s list) (shown s)
-delta_of_start s c list sound within same suits = each_follows s (command c) list sound within ∙ chosen
-  where
-    chosen : wave_delta (command c) s (shown s) list (delta_in (wave_deltas s (command c))) ≡ first_delta c (own_at s list) (shown s)
-    chosen = rw (starts_at s c suits, eq-eqb list (about c) same, same) refl
-
-pub unheld : (own : Own) → IsPlain own → is_held own ≡ false
-unheld (source contents) h = refl
-unheld (over input view) h = refl
-unheld (composite needed members) h = refl
-unheld other h = absurd h
-
-pub delta_of_other : (s : State) (c : Command) (list : ℕ) → IsSound s → list < length s → list ≢ about c → Suits c (own_at s (about c)) → IsPlain (own_at s list)
-    → delta_in (wave_deltas s (command c)) list ≡ follow (own_at s list) (shown s) (delta_in (wave_deltas s (command c)))
-delta_of_other s c list sound within other suits plain = each_follows s (command c) list sound within ∙ chosen (eqb list (about c)) refl
-  where
-    chosen : (t : Bool) → eqb list (about c) ≡ t
-        → wave_delta (command c) s (shown s) list (delta_in (wave_deltas s (command c))) ≡ follow (own_at s list) (shown s) (delta_in (wave_deltas s (command c)))
-    chosen true e = absurd (other (eqb-true list (about c) e))
-    chosen false e = rw (starts_at s c suits, e, unheld (own_at s list) plain) refl
-
--- what these keep afterwards
-pub own_of_start : (s : State) (c : Command) (list : ℕ) → list < length s → list ≡ about c → own_at (wave s (command c)) list ≡ kept_after c (shown s) (own_at s list)
-own_of_start s c list within same = own_at_wave s (command c) list within ∙ chosen
-  where
-    chosen : (if list == about c then kept_after c (shown s) (own_at s list) else kept_later list (own_at s list) (delta_in (wave_deltas s (command c)))) ≡ kept_after c (shown s) (own_at s list)
-    chosen = rw (eq-eqb list (about c) same) refl
-
-kept_same : (list : ℕ) (own : Own) (shows : ℕ → List Tree) (delta : ℕ → Delta) → IsPlain own → delta list ≡ follow own shows delta → kept_later list own delta ≡ own
-kept_same list (source contents) shows delta plain e = ap source (ap (λ d. applied d contents) e ∙ applied_no_change contents)
-kept_same list (over input view) shows delta plain e = refl
-kept_same list (composite needed members) shows delta plain e = refl
-kept_same list other shows delta plain e = absurd plain
-
-pub own_of_other : (s : State) (c : Command) (list : ℕ) → IsSound s → list < length s → list ≢ about c → Suits c (own_at s (about c)) → IsPlain (own_at s list)
-    → own_at (wave s (command c)) list ≡ own_at s list
-own_of_other s c list sound within other suits plain = own_at_wave s (command c) list within ∙ chosen (eqb list (about c)) refl
-  where
-    chosen : (t : Bool) → eqb list (about c) ≡ t
-        → (if t then kept_after c (shown s) (own_at s list) else kept_later list (own_at s list) (delta_in (wave_deltas s (command c)))) ≡ own_at s list
-    chosen true e = absurd (other (eqb-true list (about c) e))
-    chosen false e = kept_same list (own_at s list) (shown s) (delta_in (wave_deltas s (command c))) plain (delta_of_other s c list sound within other suits plain)
-
--- a list over another isn't refused its parameter
+-- and isn't refused
 pub given_inside : (of : Command) (input : ℕ) (view : View) → Gives view (parameter_of of) → refused_by (over input view) of ≡ None
 given_inside (c.Match list m) input view h = refl
 given_inside (c.Order list keys) input view h = refl
 given_inside (c.Bounds list b) input view h = refl
 given_inside (c.Apply list f) input view h = refl
-given_inside other input view h = absurd (given view None h)
+given_inside other input view h = absurd (none_given view h)
+
+some_is : (i j : ℕ) → Some i ≡ Some j → j ≡ i
+some_is i j e = cc
+
+none_some : (i : ℕ) → None ≡ Some i → ⊥
+none_some i e = absurd cc
+
+-- the wave of a command that is no rollback begins at the list that it is about, if it begins
+commit_here : (number list i : ℕ) (own : Own) → beginning (c.Commit list) number own ≡ Some i → i ≡ number
+commit_here number list i (source contents) e = absurd (none_some i e)
+commit_here number list i (over input view) e = absurd (none_some i e)
+commit_here number list i (composite needed members) e = absurd (none_some i e)
+commit_here number list i (transaction input []) e = absurd (none_some i e)
+commit_here number list i (transaction input (level ∷ [])) e = some_is number i e
+commit_here number list i (transaction input (level ∷ outer ∷ levels)) e = absurd (none_some i e)
+commit_here number list i (freezable input since) e = absurd (none_some i e)
+commit_here number list i (proxy input kept queue) e = absurd (none_some i e)
+
+pub begins_here : (of : Command) (number i : ℕ) (own : Own) → IsNoRollback of → beginning of number own ≡ Some i → i ≡ number
+begins_here (c.Rollback list) number i own h e = absurd h
+begins_here (c.Begin list) number i own h e = absurd (none_some i e)
+begins_here (c.Freeze list) number i own h e = absurd (none_some i e)
+begins_here (c.Show list) number i own h e = absurd (none_some i e)
+begins_here (c.Commit list) number i own h e = commit_here number list i own e
+begins_here other number i own h e = some_is number i e
+
+-- what a rollback leaves doesn't go by what others show
+pub kept_rolled : (of : Command) (own : Own) (f g : ℕ → List Tree) → ¬ IsNoRollback of → kept_after of f own ≡ kept_after of g own
+kept_rolled (c.Rollback list) (source contents) f g h = refl
+kept_rolled (c.Rollback list) (over input view) f g h = refl
+kept_rolled (c.Rollback list) (composite needed members) f g h = refl
+kept_rolled (c.Rollback list) (transaction input levels) f g h = refl
+kept_rolled (c.Rollback list) (freezable input since) f g h = refl
+kept_rolled (c.Rollback list) (proxy input kept queue) f g h = refl
+kept_rolled other own f g h = absurd (h tt)
 
 -- a command that suits a list makes a wave, or is refused for one of two reasons
+never_shown : (list : ℕ) (own : Own) → Suits (c.Show list) own → ⊥
+never_shown list (source contents) h = h
+never_shown list (over input view) h = none_given view h
+never_shown list (composite needed members) h = h
+never_shown list (transaction input levels) h = h
+never_shown list (freezable input since) h = h
+never_shown list (proxy input kept queue) h = h
+
 pub unmoved_is : (limit : ℕ) (s : State) (c : Command) (own : Own) → Suits c own → unmoved limit s c ≡ option_or (refusal s c) (too_long limit (wave s (command c)))
-unmoved_is limit s (c.Show list) own h = absurd (never (c.Show list) own refl (λ x. x) (λ n x. x) h)
+unmoved_is limit s (c.Show list) own h = absurd (never_shown list own h)
 unmoved_is limit s other own h = refl
 
--- the wave leads
+-- it may be taken
 may_attach : (of : Command) (own : Own) → Suits of own → MayAttach of own
 may_attach (c.Attach list member) (composite needed members) h = h
 may_attach (c.Attach list member) (source contents) h = tt
 may_attach (c.Attach list member) (over input view) h = tt
+may_attach (c.Attach list member) (transaction input levels) h = tt
+may_attach (c.Attach list member) (freezable input since) h = tt
 may_attach (c.Attach list member) other h = absurd h
 may_attach of own h = tt
 
-may_take : (of : Command) (own : Own) → IsPlain own → MayTake of own
+of_levels : (of : Command) → IsOfLevels of → OfTransaction of
+of_levels (c.Begin list) h = tt
+of_levels (c.Commit list) h = tt
+of_levels (c.Rollback list) h = tt
+of_levels other h = absurd h
+
+of_freezing : (of : Command) → IsOfFreezing of → OfFreezable of
+of_freezing (c.Freeze list) h = tt
+of_freezing (c.Thaw list) h = tt
+of_freezing other h = absurd h
+
+may_take : (of : Command) (own : Own) → Suits of own → MayTake of own
 may_take of (source contents) h = tt
 may_take of (over input view) h = tt
 may_take of (composite needed members) h = tt
-may_take of other h = absurd h
+may_take of (transaction input levels) h = of_levels of h
+may_take of (freezable input since) h = of_freezing of h
+may_take of (proxy input kept queue) h = absurd h
 
+pub taken_of : (s : State) (c : Command) → Suits c (own_at s (about c)) → refusal s c ≡ None → IsTaken s (command c)
+taken_of s c suits none = record {
+  granted = none;
+  attaches = may_attach c (own_at s (about c)) suits;
+  suits = may_take c (own_at s (about c)) suits;
+}
+
+-- the wave leads, and leaves a state as plans have it
 pub graph_leads : (limit : ℕ) (nodes : List Node) (positions : List ℕ) (c : Command) → IsGraph limit nodes positions → Suits c (own_at (state_of nodes positions) (about c))
     → refusal (state_of nodes positions) c ≡ None
     → Lead (wave_deltas (state_of nodes positions) (command c)) (table_of (state_of nodes positions)) (table_of (wave (state_of nodes positions) (command c)))
-graph_leads limit nodes positions c graph suits none =
-    let s : State = state_of nodes positions in
-    let dependency_order = order_of_settled nodes positions graph.settled in
-    let plain = state_plain nodes positions (about c) dependency_order in
-    wave_leads s c (state_sound nodes positions dependency_order graph.ordered) none (may_attach c (own_at s (about c)) suits) (may_take c (own_at s (about c)) plain)
+graph_leads limit nodes positions c graph suits none = wave_leads_by (state_of nodes positions) (command c) graph.sound (taken_of (state_of nodes positions) c suits none)
 
-pub wave_plain : (limit : ℕ) (nodes : List Node) (positions : List ℕ) (c : Command) → IsGraph limit nodes positions → Suits c (own_at (state_of nodes positions) (about c))
+pub graph_sound : (limit : ℕ) (nodes : List Node) (positions : List ℕ) (c : Command) → IsGraph limit nodes positions → Suits c (own_at (state_of nodes positions) (about c))
+    → refusal (state_of nodes positions) c ≡ None → IsSound (wave (state_of nodes positions) (command c))
+graph_sound limit nodes positions c graph suits none = wave_sound_by (state_of nodes positions) (command c) graph.sound (taken_of (state_of nodes positions) c suits none)
+
+pub graph_inward : (limit : ℕ) (nodes : List Node) (positions : List ℕ) (c : Command) → IsGraph limit nodes positions → Suits c (own_at (state_of nodes positions) (about c))
     → IsInward (wave (state_of nodes positions) (command c))
-wave_plain limit nodes positions c graph suits =
+graph_inward limit nodes positions c graph suits =
     let s : State = state_of nodes positions in
-    wave_inward s (command c) (may_attach c (own_at s (about c)) suits) (state_inward nodes positions (order_of_settled nodes positions graph.settled))
+    wave_inward s (command c) (may_attach c (own_at s (about c)) suits) (sound_inward s graph.sound)

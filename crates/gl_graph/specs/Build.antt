@@ -4,7 +4,7 @@ use Rattle.spec_states.specs.ListDecl.{ListDecl}
 use Rattle.spec_states.specs.Reply.TheVariants as reply
 use Rattle.spec_states.specs.State.{Own, State, own_at, dependency_order}
 use Rattle.spec_states.specs.Step.{too_long}
-use Rattle.spec_states.specs.Laws.{IsOrdered}
+use Rattle.spec_states.specs.Laws.{IsSound}
 use Rattle.spec_states.specs.Shown.{shown_of}
 use Rattle.spec_states.specs.Opening.{seen_through}
 use Rattle.gl_graph.specs.declared.node.Node.{Node}
@@ -51,7 +51,7 @@ pub record AreReady (limit : ℕ) (lists : List ListDecl) (positions order : Lis
   pub few_lists : length lists ≤ 256
   pub few : limit ≤ 2147483647
   pub built : AreKindsBuilt lists
-  pub ordered : IsOrdered (opened_lists lists)
+  pub sound : IsSound (opened_lists lists)
   pub order_is : order ≡ dependency_order (opened_lists lists)
   pub long : length positions ≡ length lists
   pub positions_are : ArePositions positions order (length lists)

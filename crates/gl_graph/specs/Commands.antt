@@ -10,7 +10,7 @@ use Rattle.gl_source.specs.declared.edit.Edit.TheVariants as e
 use Rattle.gl_source.specs.declared.fault.EditFault.{EditFault}
 use Rattle.gl_source.specs.declared.fault.EditFault.TheVariants.{OutOfRange, TooLong, Memory}
 use Rattle.spec_states.specs.View.{View, filter, sorted, unique, grouping, range, function, collection, Parameter, matcher, order, bounds, func}
-use Rattle.spec_states.specs.State.{Own, source, over, composite}
+use Rattle.spec_states.specs.State.{Own, source, over, composite, transaction, freezable}
 use Rattle.spec_states.specs.Step.{refused_by}
 use Rattle.spec_states.specs.Wave.{parameter_of, edited}
 
@@ -63,11 +63,36 @@ IsMembershipOf needed (c.Attach list member) = Contains needed member
 IsMembershipOf needed (c.Detach list index) = ⊤
 IsMembershipOf needed other = ⊥
 
+-- the command opens or closes a level
+abbrev pub IsOfLevels : Command → Type 0
+IsOfLevels (c.Begin list) = ⊤
+IsOfLevels (c.Commit list) = ⊤
+IsOfLevels (c.Rollback list) = ⊤
+IsOfLevels other = ⊥
+
+-- the command freezes a list or lets it go
+abbrev pub IsOfFreezing : Command → Type 0
+IsOfFreezing (c.Freeze list) = ⊤
+IsOfFreezing (c.Thaw list) = ⊤
+IsOfFreezing other = ⊥
+
+-- the command is no rollback
+abbrev pub IsNoRollback : Command → Type 0
+IsNoRollback (c.Rollback list) = ⊥
+IsNoRollback other = ⊤
+
+-- a list that keeps this may be rolled back
+abbrev pub CanRollBack : Own → Type 0
+CanRollBack (transaction input levels) = ⊤
+CanRollBack other = ⊥
+
 -- it is one for a list that keeps this
 abbrev pub Suits : Command → Own → Type 0
 Suits c (source contents) = IsEdit c
 Suits c (over input view) = Gives view (parameter_of c)
 Suits c (composite needed members) = IsMembershipOf needed c
+Suits c (transaction input levels) = IsOfLevels c
+Suits c (freezable input since) = IsOfFreezing c
 Suits c other = ⊥
 
 -- the edit that such a command comes to

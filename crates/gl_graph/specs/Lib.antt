@@ -1,4 +1,7 @@
 pub mod Derived
+pub mod Held
+pub mod Holds
+pub mod Lens
 pub mod Spots
 pub mod Nodes
 pub mod Kept
@@ -6,6 +9,7 @@ pub mod Room
 pub mod Undos
 pub mod Members
 pub mod Commands
+pub mod Rollbacks
 pub mod Graph
 pub mod Opening
 pub mod Positions
@@ -13,3 +17,4 @@ pub mod Build
 pub mod Waves
 pub mod Backs
 pub mod Spread
+pub mod Faults

@@ -53,3 +53,4 @@ IsRegroupStopped shows c list old (OutOfRange index len) =
 IsRegroupStopped shows c list old (TooLong number len) =
     (number ≡ list) × IsRegroupedLong shows c old len
 IsRegroupStopped shows c list old Memory = ⊤
+IsRegroupStopped shows c list old other = ⊥

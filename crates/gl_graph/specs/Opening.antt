@@ -20,6 +20,8 @@ IsBuilt P (kinds.Range input bounds) = P input
 IsBuilt P (kinds.Function input func) = P input
 IsBuilt P (kinds.Collection input kids) = P input
 IsBuilt P (kinds.Composite members may) = All P (members ++ may)
+IsBuilt P (kinds.Transaction input) = P input
+IsBuilt P (kinds.Freezable input) = P input
 IsBuilt P other = ⊥
 
 -- the list would have so many elements, which are too many

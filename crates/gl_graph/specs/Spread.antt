@@ -1,29 +1,36 @@
 -- How a command spreads through the nodes of a graph, from the list where its wave begins on, one place after another.
-use Rattle.std.specs.Prelude.{◌≡◌, ◌≢◌, ◌<◌, ◌≤◌, ◌⊎◌, ⊤, ℕ, [], List, length, take, slice_get, slice_index, slice_index_or, slice_set, Option, Some, None, Result, IfOk, IfErr, OnErr}
+use Rattle.std.specs.Prelude.{◌≡◌, ◌≢◌, ◌<◌, ◌≤◌, ◌⊎◌, ⊤, ℕ, true, false, [], List, length, drop, take, slice_get, slice_index, slice_index_or, slice_set, Option, Some, None, Result, IfOk, IfErr, OnErr}
 use Rattle.std.specs.List.{Contains}
 use Rattle.spec_states.specs.Tree.{Tree}
 use Rattle.spec_states.specs.Piece.{old_len}
 use Rattle.spec_states.specs.Delta.{Delta, no_change}
-use Rattle.spec_states.specs.Leads.{LeadsTo, undone}
+use Rattle.spec_states.specs.Leads.{LeadsFrom, LeadsTo, undone}
 use Rattle.spec_states.specs.Command.{Command}
 use Rattle.spec_states.specs.Reply.TheVariants as reply
 use Rattle.gl_source.specs.Model.{DeltaModel}
-use Rattle.gl_source.specs.declared.fault.EditFault.{EditFault}
-use Rattle.gl_source.specs.declared.fault.EditFault.TheVariants as f
-use Rattle.gl_kernels.specs.KernelFault.{KernelFault}
-use Rattle.gl_kernels.specs.KernelFault.TheVariants as k
 use Rattle.spec_states.specs.Plan.{origin as about}
-use Rattle.spec_states.specs.State.{Own, State, inputs, own_at}
-use Rattle.spec_states.specs.Shown.{shown, shown_of}
-use Rattle.spec_states.specs.Wave.{command, begins, kept_after, first_delta, follow, wave, wave_deltas, delta_in}
+use Rattle.spec_states.specs.State.{Own, State, transaction, inputs, own_at}
+use Rattle.spec_states.specs.Shown.{shown, shown_of, is_held}
+use Rattle.spec_states.specs.Wave.{command, beginning, kept_after, kept_later, first_delta, follow, wave, wave_deltas, delta_in}
 use Rattle.spec_states.specs.Step.{refusal, refused_by}
 use Rattle.gl_graph.specs.declared.node.Node.{Node}
 use Rattle.gl_graph.specs.declared.keeps.Keeps.{Keeps}
+use Rattle.gl_graph.specs.declared.keeps.Keeps.TheVariants.{Source, Held}
 use Rattle.gl_graph.specs.declared.keeps.KeepsUndo.{KeepsUndo}
+use Rattle.gl_graph.specs.declared.turned.Turned.{Turned}
+use Rattle.gl_graph.specs.declared.turned.Turned.TheVariants.{Stays, Silent, Told}
+use Rattle.gl_graph.specs.declared.rollback.Rollback.{Rollback}
 use Rattle.gl_graph.specs.declared.graph.Refused.{Refused}
-use Rattle.gl_graph.specs.declared.graph.Refused.TheVariants.{OutOfRange, TooLong, Memory}
-use Rattle.gl_graph.specs.Nodes.{own_of, numbers, shown_by, state_of, OnInput, AreAmong, StandsFor, IsPlaced, AreInTurn, AreSettled}
-use Rattle.gl_graph.specs.Commands.{Suits}
+use Rattle.gl_graph.specs.declared.graph.Refused.TheVariants.{OutOfRange, TooLong, AlreadyFrozen, NotFrozen, NotOpen, Memory}
+use Rattle.gl_graph.specs.Nodes.{own_of, numbers, shown_by, state_of, OnInput, AreAmong, StandsFor, KernelStandsFor, IsPlaced, AreInTurn, AreSettled}
+use Rattle.gl_held.specs.declared.undo.HeldUndo.{HeldUndo}
+use Rattle.gl_graph.specs.declared.held.Held.{Held as HeldList}
+use Rattle.gl_graph.specs.declared.held.Held.TheVariants as h
+use Rattle.gl_graph.specs.Held as held_list
+use Rattle.gl_graph.specs.Held.{own_of_held, composed_with}
+use Rattle.gl_graph.specs.declared.keeps.KeepsUndo.TheVariants as u
+use Rattle.gl_graph.specs.Commands.{Suits, IsNoRollback}
+use Rattle.gl_graph.specs.Rollbacks.{IsRollback, IsSourceOf, start_at}
 use Rattle.gl_graph.specs.Graph.{limit_of, IsLimited, IsGraph}
 use Rattle.gl_graph.specs.Room.{IsNoMore}
 use Rattle.gl_graph.specs.Undos.{contents, room_of, IsUndo}
@@ -53,82 +60,210 @@ pub record IsReached (deltas : List (Option DeltaModel)) (own : Own) : Type 0 wh
 
 -- ---- what becomes of one list
 
--- what is told of a list and the way back, where it now keeps this and stands for what its input shows
-pub record IsInverse (shows : ℕ → List Tree) (own : Own) (delta : Delta) (old new : Keeps)
-    (done : DeltaModel × KeepsUndo) : Type 0 where
-  pub told : done.0.pieces ≡ delta
-  pub stands : StandsFor new shows
-  pub own_is : own_of new ≡ own
-  pub limit : limit_of new ≡ limit_of old
-  pub undo : IsUndo done.1 old new
+-- a list keeps this in place of what it kept, stands for what its inputs show, and has its way back
+pub record HasTurned (shows : ℕ → List Tree) (own : Own) (old new : Keeps) (undo : KeepsUndo) : Type 0
+  where
+    pub stands : KernelStandsFor new shows
+    pub own_is : own_of new ≡ own
+    pub limit : limit_of new ≡ limit_of old
+    pub is_undo : IsUndo undo old new
 
--- the list where the wave of a command begins that is about it
-pub record IsChanged (shows : ℕ → List Tree) (c : Command) (old new : Keeps)
-    (done : DeltaModel × KeepsUndo) : Type 0 where
+-- and tells this
+pub record HasTold (shows : ℕ → List Tree) (own : Own) (delta : Delta) (old new : Keeps)
+    (d : DeltaModel) (undo : KeepsUndo) : Type 0 where
+  pub told : d.pieces ≡ delta
+  pub turned : HasTurned shows own old new undo
+
+-- what a list keeps that a delta takes back
+abbrev pub put_back : ℕ → Own → Delta → Own
+put_back list own d = kept_later list own (λ i. d)
+
+-- the source of a rollback takes the delta that it begins with
+abbrev pub IsSourceStep : (ℕ → List Tree) → Delta → ℕ → Keeps → Keeps → Turned → Type 0
+IsSourceStep shows back list old new Stays = ⊥
+IsSourceStep shows back list old new (Silent undo) = ⊥
+IsSourceStep shows back list old new (Told d undo) =
+    HasTold shows (put_back list (own_of old) back) back old new d undo
+
+-- the list that a command is about takes it: it tells the delta with which the wave begins there, or nothing where it doesn't
+pub record IsQuietOwn (shows : ℕ → List Tree) (c : Command) (list : ℕ) (old new : Keeps)
+    (undo : KeepsUndo) : Type 0 where
   pub inside : refused_by (own_of old) c ≡ None
-  pub inverted : IsInverse shows (kept_after c shows (own_of old))
-      (first_delta c (own_of old) shows) old new done
+  pub elsewhere : beginning c list (own_of old) ≢ Some list
+  pub turned : HasTurned shows (kept_after c shows (own_of old)) old new undo
 
--- a list that follows its inputs
-pub record IsFollowing (shows : ℕ → List Tree) (deltas : List (Option DeltaModel)) (old new : Keeps)
-    (done : DeltaModel × KeepsUndo) : Type 0 where
-  pub reached : IsReached deltas (own_of old)
-  pub inverted : IsInverse shows (own_of old)
-      (follow (own_of old) (shown_before deltas shows) (delta_told deltas shows)) old new done
+pub record IsToldOwn (shows : ℕ → List Tree) (c : Command) (list : ℕ) (old new : Keeps)
+    (d : DeltaModel) (undo : KeepsUndo) : Type 0 where
+  pub inside : refused_by (own_of old) c ≡ None
+  pub here : beginning c list (own_of old) ≡ Some list
+  pub told : HasTold shows (kept_after c shows (own_of old)) (first_delta c (own_of old) shows) old new
+      d undo
 
--- a list that is told nothing
+abbrev pub IsOwnStep : (ℕ → List Tree) → Command → ℕ → Keeps → Keeps → Turned → Type 0
+IsOwnStep shows c list old new Stays = ⊥
+IsOwnStep shows c list old new (Silent undo) = IsQuietOwn shows c list old new undo
+IsOwnStep shows c list old new (Told d undo) = IsToldOwn shows c list old new d undo
+
+-- what a list keeps with one open level less
+abbrev pub one_less : Own → Own
+one_less (transaction input levels) = transaction input (drop 1 levels)
+one_less other = other
+
+-- the list drops its innermost level
+abbrev pub HasDropped : Keeps → Keeps → Turned → Type 0
+HasDropped old new (Silent undo) =
+    (shows : ℕ → List Tree) → HasTurned shows (one_less (own_of old)) old new undo
+HasDropped old new other = ⊥
+
+-- a list that can be held has taken a command, which tells this
+abbrev pub turned_by : Option DeltaModel → HeldUndo → Turned
+turned_by None undo = Silent (u.Held undo)
+turned_by (Some d) undo = Told d (u.Held undo)
+
+-- a list that can be held keeps a delta of its input while it is held, and else tells it
+abbrev pub HasKept : DeltaModel → HeldList → HeldList → Turned → Type 0
+HasKept d old new (Silent (u.Held undo)) =
+    ((input : ℕ) → is_held (own_of_held input old) ≡ true)
+    × ((held_list.contents new ≡ composed_with d.pieces old) × held_list.IsUndo undo old new)
+HasKept d old new (Told out u.Unchanged) =
+    ((input : ℕ) → is_held (own_of_held input old) ≡ false)
+    × ((new ≡ old) × (out.pieces ≡ d.pieces))
+HasKept d old new other = ⊥
+
+-- any other list is as it was where nothing is told of its inputs; else one that is held keeps what they tell, and one that
+-- isn't follows
 pub record IsLeft (deltas : List (Option DeltaModel)) (old new : Keeps) : Type 0 where
   pub same : new ≡ old
   pub untold : OnInput (λ i. slice_index_or deltas i None ≡ None) old
 
--- what becomes of a list in a wave that begins at one, where this is told of those before it
-abbrev pub IsStep : Option ℕ → (ℕ → List Tree) → Command → List (Option DeltaModel) → ℕ → Keeps
-    → Keeps → Option (DeltaModel × KeepsUndo) → Type 0
-IsStep start shows c deltas list old new None = (start ≢ Some list) × IsLeft deltas old new
-IsStep start shows c deltas list old new (Some done) =
-    ((start ≡ Some list) × IsChanged shows c old new done) ⊎ ((start ≢ Some list)
-    × IsFollowing shows deltas old new done)
+pub record IsKeeping (shows : ℕ → List Tree) (deltas : List (Option DeltaModel)) (list : ℕ)
+    (old new : Keeps) (undo : KeepsUndo) : Type 0 where
+  pub reached : IsReached deltas (own_of old)
+  pub held : is_held (own_of old) ≡ true
+  pub turned : HasTurned shows (kept_later list (own_of old) (delta_told deltas shows)) old new undo
+
+pub record IsFollowing (shows : ℕ → List Tree) (deltas : List (Option DeltaModel)) (old new : Keeps)
+    (d : DeltaModel) (undo : KeepsUndo) : Type 0 where
+  pub reached : IsReached deltas (own_of old)
+  pub free : is_held (own_of old) ≡ false
+  pub told : HasTold shows (own_of old)
+      (follow (own_of old) (shown_before deltas shows) (delta_told deltas shows)) old new d undo
+
+abbrev pub IsOtherStep : (ℕ → List Tree) → List (Option DeltaModel) → ℕ → Keeps → Keeps → Turned
+    → Type 0
+IsOtherStep shows deltas list old new Stays = IsLeft deltas old new
+IsOtherStep shows deltas list old new (Silent undo) = IsKeeping shows deltas list old new undo
+IsOtherStep shows deltas list old new (Told d undo) = IsFollowing shows deltas old new d undo
+
+-- what becomes of a list in a wave, where this is told of those before it
+pub data IsStep (rollback : Option Rollback) (shows : ℕ → List Tree) (c : Command)
+    (deltas : List (Option DeltaModel)) (list : ℕ) (old new : Keeps) (turned : Turned) : Type 0 where
+  at_source : (back : Rollback) → rollback ≡ Some back → list ≡ back.source
+      → IsSourceStep shows back.delta.pieces list old new turned
+      → IsStep rollback shows c deltas list old new turned
+  at_own : list ≡ about c → IsOwnStep shows c list old new turned
+      → IsStep rollback shows c deltas list old new turned
+  at_other : list ≢ about c → ¬ IsSourceOf list rollback
+      → IsOtherStep shows deltas list old new turned
+      → IsStep rollback shows c deltas list old new turned
 
 -- a list that keeps this would show so many elements, which are too many
 pub record IsLong (limit : ℕ) (shows : ℕ → List Tree) (own : Own) (len : ℕ) : Type 0 where
   pub past : limit < len
   pub len_is : len ≡ length (shown_of own shows)
 
--- the list where the wave begins takes the command, and would be too long; or one that follows would
-abbrev pub IsTooLongAt : ℕ → Option ℕ → (ℕ → List Tree) → Command → List (Option DeltaModel) → ℕ
-    → Own → ℕ → Type 0
-IsTooLongAt limit start shows c deltas list own len =
-    ((start ≡ Some list)
-    × ((refused_by own c ≡ None) × IsLong limit shows (kept_after c shows own) len))
-    ⊎ ((start ≢ Some list) × (IsReached deltas own × IsLong limit shows own len))
+-- why what a list keeps refuses a command
+abbrev pub IsRefusalOf : Own → Command → Refused → Type 0
+IsRefusalOf own c (OutOfRange index len) = refused_by own c ≡ Some (reply.OutOfRange index len)
+IsRefusalOf own c (TooLong number len) = ⊥
+IsRefusalOf own c AlreadyFrozen = refused_by own c ≡ Some reply.AlreadyFrozen
+IsRefusalOf own c NotFrozen = refused_by own c ≡ Some reply.NotFrozen
+IsRefusalOf own c NotOpen = refused_by own c ≡ Some reply.NotOpen
+IsRefusalOf own c Memory = ⊤
+
+-- why the source of a rollback doesn't change: taken back it would be too long
+abbrev pub IsSourceStopped : ℕ → (ℕ → List Tree) → Delta → ℕ → Own → Refused → Type 0
+IsSourceStopped limit shows back list own (TooLong number len) =
+    (number ≡ list) × IsLong limit shows (put_back list own back) len
+IsSourceStopped limit shows back list own Memory = ⊤
+IsSourceStopped limit shows back list own other = ⊥
+
+-- why the list doesn't change that a command is about: it refuses it, or takes it and would be too long
+abbrev pub IsOwnStopped : ℕ → (ℕ → List Tree) → Command → ℕ → Own → Refused → Type 0
+IsOwnStopped limit shows c list own (TooLong number len) =
+    (number ≡ list) × ((refused_by own c ≡ None) × IsLong limit shows (kept_after c shows own) len)
+IsOwnStopped limit shows c list own other = IsRefusalOf own c other
+
+-- why another one doesn't: it follows and would be too long
+abbrev pub IsOtherStopped : ℕ → (ℕ → List Tree) → List (Option DeltaModel) → ℕ → Own → Refused
+    → Type 0
+IsOtherStopped limit shows deltas list own (TooLong number len) =
+    (number ≡ list)
+    × ((IsReached deltas own × (is_held own ≡ false)) × IsLong limit shows own len)
+IsOtherStopped limit shows deltas list own Memory = ⊤
+IsOtherStopped limit shows deltas list own other = ⊥
 
 -- why a list doesn't change
-abbrev pub IsStopped : ℕ → Option ℕ → (ℕ → List Tree) → Command → List (Option DeltaModel) → ℕ → Own
-    → Refused → Type 0
-IsStopped limit start shows c deltas list own (OutOfRange index len) =
-    (start ≡ Some list) × (refused_by own c ≡ Some (reply.OutOfRange index len))
-IsStopped limit start shows c deltas list own (TooLong number len) =
-    (number ≡ list) × IsTooLongAt limit start shows c deltas list own len
-IsStopped limit start shows c deltas list own Memory = ⊤
+pub data IsStopped (limit : ℕ) (rollback : Option Rollback) (shows : ℕ → List Tree) (c : Command)
+    (deltas : List (Option DeltaModel)) (list : ℕ) (own : Own) (why : Refused) : Type 0 where
+  source_stops : (back : Rollback) → rollback ≡ Some back → list ≡ back.source
+      → IsSourceStopped limit shows back.delta.pieces list own why
+      → IsStopped limit rollback shows c deltas list own why
+  own_stops : list ≡ about c → IsOwnStopped limit shows c list own why
+      → IsStopped limit rollback shows c deltas list own why
+  other_stops : list ≢ about c → ¬ IsSourceOf list rollback
+      → IsOtherStopped limit shows deltas list own why
+      → IsStopped limit rollback shows c deltas list own why
 
--- a list changes or follows, or is as it was
-pub record IsTried (start : Option ℕ) (shows : ℕ → List Tree) (c : Command)
+-- a list changes, or is as it was
+pub record IsTried (rollback : Option Rollback) (shows : ℕ → List Tree) (c : Command)
     (deltas : List (Option DeltaModel)) (list : ℕ) (old new : Keeps)
-    (result : Result (Option (DeltaModel × KeepsUndo)) Refused) : Type 0 where
-  pub ok : IfOk result (IsStep start shows c deltas list old new)
+    (result : Result Turned Refused) : Type 0 where
+  pub ok : IfOk result (IsStep rollback shows c deltas list old new)
   pub err : OnErr result (contents new ≡ contents old)
   pub stopped : (limit : ℕ) → IsLimited limit old
-      → IfErr result (IsStopped limit start shows c deltas list (own_of old))
+      → IfErr result (IsStopped limit rollback shows c deltas list (own_of old))
   pub room : OnErr result (IsNoMore (room_of old) (room_of new))
 
--- the list can be turned by a command whose wave begins at one, where this is told of those before it
-pub record CanTurn (start : Option ℕ) (shows : ℕ → List Tree) (c : Command)
+-- a source that can be taken back by a delta
+abbrev pub CanTakeBack : Delta → Keeps → Type 0
+CanTakeBack d (Source k) = LeadsFrom d k.values
+CanTakeBack d other = ⊥
+
+-- a list with an open level
+abbrev pub HasLevel : Keeps → Type 0
+HasLevel (Held input (h.Transaction t)) = 0 < length t.levels
+HasLevel other = ⊥
+
+-- the list that a command is about is rolled back: the wave of the command begins elsewhere
+pub record CanRoll (c : Command) (list : ℕ) (keeps : Keeps) : Type 0 where
+  pub suits : Suits c (own_of keeps)
+  pub rollback : ¬ IsNoRollback c
+  pub inside : refused_by (own_of keeps) c ≡ None
+  pub elsewhere : beginning c list (own_of keeps) ≢ Some list
+  pub level : HasLevel keeps
+
+-- or can take it
+pub record CanTake (shows : ℕ → List Tree) (c : Command) (keeps : Keeps) : Type 0 where
+  pub suits : Suits c (own_of keeps)
+  pub no_rollback : IsNoRollback c
+  pub stands : StandsFor keeps shows
+
+-- by what is told of its inputs, another one can follow
+pub record CanFollow (shows : ℕ → List Tree) (deltas : List (Option DeltaModel)) (keeps : Keeps)
+    : Type 0 where
+  pub leads : OnInput (λ i. LeadsTo (delta_told deltas shows i) (shows i)) keeps
+  pub stood : StandsFor keeps (shown_before deltas shows)
+
+-- the list can be turned by a command, where this is told of those before it
+pub record CanTurn (rollback : Option Rollback) (shows : ℕ → List Tree) (c : Command)
     (deltas : List (Option DeltaModel)) (list : ℕ) (keeps : Keeps) : Type 0 where
   pub within : OnInput (λ i. i < length deltas) keeps
-  pub suits : start ≡ Some list → Suits c (own_of keeps)
-  pub stands : start ≡ Some list → StandsFor keeps shows
-  pub leads : start ≢ Some list → OnInput (λ i. LeadsTo (delta_told deltas shows i) (shows i)) keeps
-  pub stood : start ≢ Some list → StandsFor keeps (shown_before deltas shows)
+  pub source : (back : Rollback) → rollback ≡ Some back → list ≡ back.source
+      → CanTakeBack back.delta.pieces keeps
+  pub rolled : (back : Rollback) → rollback ≡ Some back → list ≡ about c → CanRoll c list keeps
+  pub own : rollback ≡ None → list ≡ about c → CanTake shows c keeps
+  pub other : list ≢ about c → ¬ IsSourceOf list rollback → CanFollow shows deltas keeps
 
 -- ---- the nodes
 
@@ -139,45 +274,57 @@ pub record IsSetAt (position : ℕ) (old new : List Node) (was now : Node) : Typ
   pub list : now.list ≡ was.list
 
 -- the nodes with the one at a place tried
-pub record IsTriedAt (start : Option ℕ) (positions : List ℕ) (c : Command)
+pub record IsTriedAt (rollback : Option Rollback) (positions : List ℕ) (c : Command)
     (deltas : List (Option DeltaModel)) (position : ℕ) (old new : List Node)
-    (result : Result (Option (DeltaModel × KeepsUndo)) Refused) : Type 0 where
+    (result : Result Turned Refused) : Type 0 where
   pub was : Node
   pub now : Node
   pub set : IsSetAt position old new was now
-  pub tried : IsTried start (shown_by (take position old) positions) c deltas was.list was.keeps
+  pub tried : IsTried rollback (shown_by (take position old) positions) c deltas was.list was.keeps
       now.keeps result
 
 -- the node at a place can be turned
-pub record CanTurnAt (start : Option ℕ) (positions : List ℕ) (c : Command)
+pub record CanTurnAt (rollback : Option Rollback) (positions : List ℕ) (c : Command)
     (deltas : List (Option DeltaModel)) (position : ℕ) (nodes : List Node) : Type 0 where
   pub node : Node
   pub there : slice_get nodes position ≡ Some node
   pub settled : AreSettled (take position nodes) positions
   pub later : OnInput (IsPlaced (take position nodes) positions) node.keeps
   pub among : AreAmong node.keeps
-  pub can : CanTurn start (shown_by (take position nodes) positions) c deltas node.list node.keeps
+  pub can : CanTurn rollback (shown_by (take position nodes) positions) c deltas node.list node.keeps
 
--- where a command begins a wave, if it does
-abbrev pub start_of : State → Command → Option ℕ
-start_of s c = begins (command c) (own_at s (about c))
+-- the list at a place, whose node is there, stands for what the lists before it show
+pub record StandAt (positions : List ℕ) (position : ℕ) (nodes : List Node) : Type 0 where
+  pub settled : AreSettled (take position nodes) positions
+  pub node : Node
+  pub there : slice_get nodes position ≡ Some node
+  pub later : OnInput (IsPlaced (take position nodes) positions) node.keeps
+  pub stands : StandsFor node.keeps (shown_by (take position nodes) positions)
 
--- the list where it begins, if it does, stands before a place
-abbrev pub HasBegun : List ℕ → Option ℕ → ℕ → Type 0
-HasBegun positions None position = ⊤
-HasBegun positions (Some list) position = slice_index positions list < position
+-- how many elements it shows; without a node none
+abbrev pub len_by : Option Node → (ℕ → List Tree) → ℕ
+len_by None shows = 0
+len_by (Some node) shows = length (shown_of (own_of node.keeps) shows)
 
--- a graph within its limit, and a command for one of its lists, whose wave begins there
+abbrev pub shown_len_at : List ℕ → ℕ → List Node → ℕ
+shown_len_at positions position nodes =
+    len_by (slice_get nodes position) (shown_by (take position nodes) positions)
+
+-- the list where the wave of a command begins stands before a place
+abbrev pub HasBegun : List ℕ → Option Rollback → Command → ℕ → Type 0
+HasBegun positions rollback c position = slice_index positions (start_at rollback c) < position
+
+-- a graph within its limit, a command for one of its lists, and what it takes back if it is a rollback
 pub record IsBegun (limit : ℕ) (old : List Node) (positions : List ℕ) (c : Command)
-    (start : Option ℕ) : Type 0 where
+    (rollback : Option Rollback) : Type 0 where
   pub graph : IsGraph limit old positions
   pub within : about c < length (state_of old positions)
   pub suits : Suits c (own_at (state_of old positions) (about c))
-  pub start_is : start ≡ start_of (state_of old positions) c
+  pub is_rollback : IsRollback (state_of old positions) c rollback
 
 -- the nodes once the command has come as far as a place
 pub record AreInverse (limit : ℕ) (old : List Node) (positions : List ℕ) (c : Command)
-    (start : Option ℕ) (position : ℕ) (nodes : List Node) : Type 0 where
+    (rollback : Option Rollback) (position : ℕ) (nodes : List Node) : Type 0 where
   pub numbers_are : numbers nodes ≡ numbers old
   pub dependency_order : AreInTurn nodes positions
   pub settled : AreSettled (take position nodes) positions
@@ -187,10 +334,10 @@ pub record AreInverse (limit : ℕ) (old : List Node) (positions : List ℕ) (c 
   pub limited : (p : ℕ) (n : Node) → slice_get nodes p ≡ Some n → IsLimited limit n.keeps
   pub few : (list : ℕ) → list < length positions → slice_index positions list < position
       → length (shown (wave (state_of old positions) (command c)) list) ≤ limit
-  pub inside : HasBegun positions start position → refusal (state_of old positions) c ≡ None
+  pub inside : HasBegun positions rollback c position → refusal (state_of old positions) c ≡ None
 
 -- what is told of the lists that stand before a place: nothing while the wave hasn't begun
-pub record AreToldTo (s : State) (positions : List ℕ) (c : Command) (start : Option ℕ)
+pub record AreToldTo (s : State) (positions : List ℕ) (c : Command) (rollback : Option Rollback)
     (position : ℕ) (told : List (Option DeltaModel)) : Type 0 where
   pub long : length told ≡ length positions
   pub each : (list : ℕ) → list < length positions → slice_index positions list < position
@@ -200,7 +347,7 @@ pub record AreToldTo (s : State) (positions : List ℕ) (c : Command) (start : O
       → slice_index_or told list None ≡ None → shown (wave s (command c)) list ≡ shown s list
   pub others : (list : ℕ) → list < length positions → position ≤ slice_index positions list
       → slice_index_or told list None ≡ None
-  pub quiet : ¬ HasBegun positions start position → (list : ℕ)
+  pub quiet : ¬ HasBegun positions rollback c position → (list : ℕ)
       → slice_index_or told list None ≡ None
 
 -- the undos, by place, lead back to the nodes that there were, and can be made
@@ -217,11 +364,11 @@ pub record HaveBack (old nodes : List Node) (made : Made) : Type 0 where
 
 -- the command has come as far as a place
 pub record IsSpread (limit : ℕ) (old : List Node) (positions : List ℕ) (c : Command)
-    (start : Option ℕ) (position : ℕ) (nodes : List Node) (told : List (Option DeltaModel))
+    (rollback : Option Rollback) (position : ℕ) (nodes : List Node) (told : List (Option DeltaModel))
     (made : Made) : Type 0 where
-  pub begun : IsBegun limit old positions c start
-  pub inverted : AreInverse limit old positions c start position nodes
-  pub told_to : AreToldTo (state_of old positions) positions c start position told
+  pub begun : IsBegun limit old positions c rollback
+  pub inverted : AreInverse limit old positions c rollback position nodes
+  pub told_to : AreToldTo (state_of old positions) positions c rollback position told
   pub back : HaveBack old nodes made
   pub waiting : (p : ℕ) → position ≤ p → p < length nodes
       → slice_get (by_position (length nodes) made) p ≡ Some None
@@ -237,22 +384,11 @@ IsPut list d old new =
 abbrev pub IsOver : ℕ → ℕ → ℕ → Refused → Type 0
 IsOver limit list len (OutOfRange index n) = ⊥
 IsOver limit list len (TooLong number n) = (number ≡ list) × ((n ≡ len) × (limit < len))
-IsOver limit list len Memory = ⊥
+IsOver limit list len other = ⊥
 
 -- the command has come so far from some nodes
-pub record IsSpreading (limit : ℕ) (positions : List ℕ) (c : Command) (start : Option ℕ)
+pub record IsSpreading (limit : ℕ) (positions : List ℕ) (c : Command) (rollback : Option Rollback)
     (position : ℕ) (nodes : List Node) (told : List (Option DeltaModel)) (made : Made) : Type 0
   where
     pub old : List Node
-    pub is : IsSpread limit old positions c start position nodes told made
-
--- the refusal of the graph that a source's fault comes to
-abbrev pub IsRefusalOf : ℕ → EditFault → Refused → Type 0
-IsRefusalOf list (f.OutOfRange index len) why = why ≡ OutOfRange index len
-IsRefusalOf list (f.TooLong len) why = why ≡ TooLong list len
-IsRefusalOf list f.Memory why = why ≡ Memory
-
--- and that a fault of a list over another comes to
-abbrev pub IsRefusalBy : ℕ → KernelFault → Refused → Type 0
-IsRefusalBy list (k.TooLong len) why = why ≡ TooLong list len
-IsRefusalBy list k.Memory why = why ≡ Memory
+    pub is : IsSpread limit old positions c rollback position nodes told made

@@ -1,13 +1,14 @@
 -- What the undos of lists give back.
-use Rattle.std.specs.Prelude.{◌≡◌, ℕ, List}
+use Rattle.std.specs.Prelude.{◌≡◌, ⊤, ℕ, List}
 use Rattle.spec_states.specs.Tree.{Tree}
 use Rattle.gl_source.specs.Stands as source
 use Rattle.gl_graph.specs.declared.keeps.Keeps.{Keeps}
-use Rattle.gl_graph.specs.declared.keeps.Keeps.TheVariants.{Source, Over, Composite}
+use Rattle.gl_graph.specs.declared.keeps.Keeps.TheVariants.{Source, Over, Composite, Held}
 use Rattle.gl_graph.specs.declared.keeps.KeepsUndo.{KeepsUndo}
 use Rattle.gl_graph.specs.declared.keeps.KeepsUndo.TheVariants as u
 use Rattle.gl_composite.specs.Stands as composite_stands
 use Rattle.gl_graph.specs.Derived as derived
+use Rattle.gl_graph.specs.Held as held_list
 use Rattle.gl_graph.specs.Room.{Room, room, IsNoMore}
 
 -- what a list keeps, whatever its room
@@ -15,11 +16,13 @@ pub data Contents : Type 0 where
   of_source : List Tree → ℕ → Contents
   of_over : ℕ → derived.Contents → Contents
   of_composite : List ℕ → composite_stands.Contents → Contents
+  of_held : ℕ → held_list.Contents → Contents
 
 abbrev pub contents : Keeps → Contents
 contents (Source k) = of_source k.values k.limit
 contents (Over input d) = of_over input (derived.contents d)
 contents (Composite needed k) = of_composite needed (composite_stands.contents k)
+contents (Held input h) = of_held input (held_list.contents h)
 
 -- how much it has room for
 abbrev pub room_of : Keeps → Room
@@ -27,6 +30,7 @@ room_of (Source k) = room k.room
 room_of (Over input d) = derived.room_of d
 room_of (Composite needed k) =
     record { kept = k.room; members = k.list_room; sorted = 0; firsts = 0 }
+room_of (Held input h) = held_list.room_of h
 
 -- what an undo makes of a list; one of another kind makes nothing of it
 abbrev pub before : KeepsUndo → Keeps → Contents
@@ -34,6 +38,7 @@ before (u.Source undo) (Source k) = of_source (source.before undo k) k.limit
 before (u.Over undo) (Over input d) = of_over input (derived.before undo d)
 before (u.Composite undo) (Composite needed k) =
     of_composite needed (composite_stands.before undo k)
+before (u.Held undo) (Held input h) = of_held input (held_list.before undo h)
 before undo keeps = contents keeps
 
 -- the undo is of the list's kind, and the list has what the way back needs
@@ -41,6 +46,8 @@ abbrev pub CanRetreat : KeepsUndo → Keeps → Type 0
 CanRetreat (u.Source undo) (Source k) = source.CanRetreat undo k
 CanRetreat (u.Over undo) (Over input d) = derived.CanRetreat undo d
 CanRetreat (u.Composite undo) (Composite needed k) = composite_stands.CanRetreat undo k
+CanRetreat (u.Held undo) (Held input h) = held_list.CanRetreat undo h
+CanRetreat u.Unchanged (Held input h) = ⊤
 CanRetreat undo keeps = ⊥
 
 -- how much a list has room for once an undo was taken

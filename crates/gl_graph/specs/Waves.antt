@@ -1,5 +1,5 @@
 -- What a wave hands out: the delta of each list, and the way back.
-use Rattle.std.specs.Prelude.{◌≡◌, ◌<◌, ◌≤◌, ⊤, ℕ, List, [], ◌∷◌, length, map, fold, replicate, slice_get, slice_set, slice_index_or, Option, Some, None}
+use Rattle.std.specs.Prelude.{◌≡◌, ◌<◌, ⊤, ℕ, List, [], ◌∷◌, length, map, fold, replicate, slice_get, slice_set, slice_index_or, Option, Some, None}
 use Rattle.spec_states.specs.Delta.{Delta, no_change}
 use Rattle.spec_states.specs.Command.{Command}
 use Rattle.spec_states.specs.Reply.TheVariants as reply
@@ -12,7 +12,7 @@ use Rattle.gl_graph.specs.declared.node.Node.{Node}
 use Rattle.gl_graph.specs.declared.keeps.Keeps.{Keeps}
 use Rattle.gl_graph.specs.declared.keeps.KeepsUndo.{KeepsUndo}
 use Rattle.gl_graph.specs.declared.graph.Refused.{Refused}
-use Rattle.gl_graph.specs.declared.graph.Refused.TheVariants.{OutOfRange, TooLong, Memory}
+use Rattle.gl_graph.specs.declared.graph.Refused.TheVariants.{OutOfRange, TooLong, AlreadyFrozen, NotFrozen, NotOpen, Memory}
 use Rattle.gl_graph.specs.declared.graph.GraphUndo.{GraphUndo}
 use Rattle.gl_graph.specs.Nodes.{numbers}
 use Rattle.gl_graph.specs.Graph.{Kept, IsGraph}
@@ -35,6 +35,9 @@ pub record AreTold (s : State) (c : Command) (told : List (Option DeltaModel)) :
 abbrev pub IsRefused : ℕ → State → Command → Refused → Type 0
 IsRefused limit s c (OutOfRange index len) = unmoved limit s c ≡ Some (reply.OutOfRange index len)
 IsRefused limit s c (TooLong list len) = unmoved limit s c ≡ Some (reply.TooLong list len)
+IsRefused limit s c AlreadyFrozen = unmoved limit s c ≡ Some reply.AlreadyFrozen
+IsRefused limit s c NotFrozen = unmoved limit s c ≡ Some reply.NotFrozen
+IsRefused limit s c NotOpen = unmoved limit s c ≡ Some reply.NotOpen
 IsRefused limit s c Memory = ⊤
 
 -- what lists keep, whatever their room

@@ -11,16 +11,18 @@ ghost use Rattle.spec_states.specs.Step.{too_long, unmoved};
 ghost use Rattle.gl_graph.specs.Nodes.{numbers};
 ghost use Rattle.gl_graph.specs.Graph.{state_of, IsGraph};
 ghost use Rattle.gl_graph.specs.Commands.{Suits};
+ghost use Rattle.gl_graph.specs.Holds.{hold_of};
 ghost use Rattle.gl_graph.specs.Opening.{AreKindsBuilt};
 ghost use Rattle.gl_graph.specs.Build.{IsReason};
 ghost use Rattle.gl_graph.specs.Waves.{AreTold, AreApart, IsRefused, IsUndo, CanRetreat, CanAllGoBack, HaveRoomBack, HaveRoomOf, IsAsRoomy, contents, contents_of, before, before_all, by_position};
 ghost use Rattle.gl_graph.specs.Backs.{CanGoBackAt, IsBackAt};
 
-use crate::command::about;
 use crate::fault::BuildFault;
+use crate::hold::Hold;
 use crate::keeps::KeepsUndo;
 use crate::node::Node;
-use crate::seen::{element, shown_len};
+use crate::rollback::rollback_of;
+use crate::seen::{element, node_of, shown_len};
 use crate::spread::spread_all;
 use crate::start::{dependency_order_of, open_all};
 use gl_kernels::Deltas;
@@ -75,6 +77,12 @@ pub enum Refused {
     OutOfRange { index: u64, len: u64 },
     /// The list would show `len` elements, which are more than it may; the first such list in dependency order.
     TooLong { list: u32, len: u128 },
+    /// The list is frozen.
+    AlreadyFrozen,
+    /// The list isn't frozen.
+    NotFrozen,
+    /// The transaction list has no open level.
+    NotOpen,
     /// There was no memory for it.
     Memory,
 }
@@ -131,6 +139,16 @@ impl Graph {
         element(&self.nodes, &self.positions, list, position)
     }
 
+    /// Whether a list is held; a number past the lists' isn't.
+    pub fn hold(&self, list: u32) -> Hold
+        ensures { result ≡ hold_of (own_at (state_of self.now) list) }
+    {
+        if list as usize >= self.positions.len() {
+            return Hold::Free;
+        }
+        node_of(&self.nodes, &self.positions, list).keeps.hold()
+    }
+
     /// Takes a command to the list where its wave begins, and then to each list after that which depends on one that
     /// changed: wholly, or not at all. Lists before it aren't visited, and one that is told nothing is passed over. It
     /// takes memory for the changes.
@@ -152,6 +170,12 @@ impl Graph {
         ensures err { OnErr result (contents self.new ≡ contents self.old) }
         ensures room { OnErr result (HaveRoomOf self.old.nodes self.new.nodes) }
     {
+        let rollback = rollback_of(
+            self.nodes.as_slice(),
+            self.positions.as_slice(),
+            self.limit,
+            command,
+        )?;
         let mut deltas = Deltas::make(self.alloc, self.positions.len() as u32)?;
         let mut made = Vec::new(self.alloc);
         match spread_all(
@@ -160,7 +184,7 @@ impl Graph {
             self.positions.as_slice(),
             self.limit,
             command,
-            about(command),
+            &rollback,
             &mut deltas,
             &mut made,
             steps,

@@ -1,32 +1,39 @@
 //! What a list keeps.
 
-ghost use Rattle.std.specs.Prelude.{◌≡◌, ◌≤◌, ℕ, List, Some, None, length, slice_get, IfOk, IfErr, OnOk, OnErr};
-ghost use Rattle.spec_states.specs.Tree.{Tree};
-ghost use Rattle.spec_states.specs.Leads.{LeadsTo, undone};
-ghost use Rattle.spec_states.specs.View.{follow_of};
-ghost use Rattle.spec_states.specs.Shown.{shown_of};
-ghost use Rattle.spec_states.specs.Wave.{parameter_of, parameter_change, view_after};
+ghost use Rattle.std.specs.Prelude.{◌≡◌, ◌<◌, ℕ, List, None, length, slice_get, IfOk, IfErr, OnErr};
 ghost use Rattle.std.specs.List.{Contains};
+ghost use Rattle.spec_states.specs.Tree.{Tree};
+ghost use Rattle.spec_states.specs.Piece.{old_len};
+ghost use Rattle.spec_states.specs.Shown.{shown_of};
 ghost use Rattle.spec_states.specs.State.{inputs};
-ghost use Rattle.gl_kernels.specs.KernelFault.{KernelFault};
-ghost use Rattle.gl_graph.specs.Derived.{view_of_derived};
-ghost use Rattle.gl_graph.specs.Derived as derived_keeps;
+ghost use Rattle.gl_held.specs.Levels.{BeginsWith};
+ghost use Rattle.gl_graph.specs.Held.{deltas_of, contents as held_contents, room_of as held_room};
+ghost use Rattle.gl_graph.specs.Holds.{hold_of};
+ghost use Rattle.gl_graph.specs.Lens.{measured, OnLen};
 ghost use Rattle.gl_graph.specs.Spots.{spotted, OnSpot};
 ghost use Rattle.gl_graph.specs.Nodes.{own_of, StandsFor, OnInput, AreAmong, IsPlaced, AreSettled, shown_by};
-ghost use Rattle.gl_graph.specs.Commands.{Gives, Suits};
 ghost use Rattle.gl_graph.specs.Graph.{IsLimited};
 ghost use Rattle.gl_graph.specs.Room.{IsNoMore};
 ghost use Rattle.gl_graph.specs.Undos.{contents, before, room_of, room_back, CanRetreat};
-ghost use Rattle.gl_graph.specs.Spread.{CanTurn, IsChanged, IsStep, IsStopped, IsRefusalOf, IsRefusalBy};
+ghost use Rattle.gl_graph.specs.Spread.{CanTurn, CanTakeBack, HasLevel, CanTake, CanFollow, IsStep, IsSourceStep, HasDropped, turned_by, IsOwnStep, IsOtherStep, HasKept, IsStopped, IsSourceStopped, IsOwnStopped, IsOtherStopped};
+ghost use Rattle.gl_graph.specs.Faults.{IsRefusalByEdit, IsRefusalBy};
 
+use crate::command::about;
 use crate::derived::{Derived, DerivedUndo};
 use crate::graph::Refused;
+use crate::held::Held;
+use crate::hold::Hold;
+use crate::len::Len;
 use crate::members::{is_told, member_spot, regroup};
 use crate::node::Node;
-use crate::seen::see;
+use crate::over::{advance, change};
+use crate::rollback::{Rollback, delta_for};
+use crate::seen::shown_len;
 use crate::source::edit_source;
 use crate::spot::Spot;
+use crate::turned::Turned;
 use gl_composite::{Composite, CompositeUndo};
+use gl_held::HeldUndo;
 use gl_kernels::{Delta, Deltas, KernelFault};
 use gl_plan::{Command, Items, Shelf, Steps};
 use gl_source::{EditFault, SourceList, SourceUndo};
@@ -34,7 +41,8 @@ use std::alloc::{AllocError, Global};
 use std::sync::ledger::Ledger;
 
 /// What a list keeps: a source its elements, a list over one input the number of that and what its kind keeps of it, a
-/// composite the lists that it depends on and what it keeps of its members.
+/// composite the lists that it depends on and what it keeps of its members, a list that can be held the number of its input
+/// and what it keeps while it is held.
 #[derive(Drop)]
 pub enum Keeps {
     Source(SourceList),
@@ -46,34 +54,45 @@ pub enum Keeps {
         needed: Items<u32>,
         composite: Composite,
     },
+    Held {
+        input: u32,
+        held: Held,
+    },
 }
 
-/// What takes a list back to where it stood before a change.
+/// What takes a list back to where it stood before a change. A list that can be held, and isn't, follows unchanged.
 #[derive(Drop)]
 pub enum KeepsUndo {
     Source(SourceUndo),
     Over(DerivedUndo),
     Composite(CompositeUndo),
+    Held(HeldUndo),
+    Unchanged,
 }
 
 impl Keeps {
-    /// How many elements the list shows.
-    pub fn len(&self) -> usize
-        ensures { (shows : ℕ → List Tree) → StandsFor self.now shows
-            → result ≡ length (shown_of (own_of self.now) shows) }
+    /// How many elements the list shows, or the list that shows as many.
+    pub fn len(&self) -> Len
+        ensures measured { (shows : ℕ → List Tree) → StandsFor self.now shows
+            → measured result shows ≡ length (shown_of (own_of self.now) shows) }
+        ensures on { OnLen (Contains (inputs (own_of self.now))) result }
     {
         match self {
-            Keeps::Source(source) => source.len(),
-            Keeps::Over { input: _, derived } => derived.len(),
+            Keeps::Source(source) => Len::Is(source.len()),
+            Keeps::Over { input: _, derived } => Len::Is(derived.len()),
             Keeps::Composite {
                 needed: _,
                 composite,
-            } => composite.len(),
+            } => Len::Is(composite.len()),
+            Keeps::Held { input, held } => match held.held_len() {
+                Some(len) => Len::Is(len),
+                None => Len::As(*input),
+            },
         }
     }
 
-    /// Where the element stands that is shown at a position: in the list itself, or in one that it depends on. It is `None`
-    /// exactly where the position isn't below the length.
+    /// Where the element stands that is shown at a position: in the list itself, or in one that it depends on. It is `None`,
+    /// or nowhere in another list, exactly where the position isn't below the length.
     pub fn find(&self, position: usize) -> Option<Spot<'_>>
         ensures spotted { (shows : ℕ → List Tree) → StandsFor self.now shows
             → spotted result shows ≡ slice_get (shown_of (own_of self.now) shows) position }
@@ -90,104 +109,190 @@ impl Keeps {
                 needed: _,
                 composite,
             } => member_spot(composite, position),
+            Keeps::Held { input, held } => held.find(*input, position),
         }
     }
 
-    /// Turns the list of this number in the wave of a command that begins at `start`, where the lists before it were
-    /// turned and this is told of them: what is told of it and the way back, or nothing where it stays.
+    /// Whether the list is held.
+    pub fn hold(&self) -> Hold
+        ensures { result ≡ hold_of (own_of self.now) }
+    {
+        match self {
+            Keeps::Held { input: _, held } => held.hold(),
+            _ => Hold::Free,
+        }
+    }
+
+    /// Turns the list of this number in the wave of a command, where the lists before it were turned and this is told of
+    /// them.
     pub(crate) fn turn<L: Ledger>(
         &mut self,
         alloc: Global,
         list: u32,
-        start: u32,
         prefix: &[Node],
         positions: &[u32],
         command: &Command,
+        rollback: &Option<Rollback>,
         deltas: &Deltas,
         steps: &mut Steps<L>,
-    ) -> Result<Option<(Delta, KeepsUndo)>, Refused>
+    ) -> Result<Turned, Refused>
         requires settled { AreSettled prefix.now positions.now }
         requires later { OnInput (IsPlaced prefix.now positions.now) self.old }
         requires among { AreAmong self.old }
-        requires can { CanTurn (Some start) (shown_by prefix.now positions.now) command.now
+        requires can { CanTurn rollback.now (shown_by prefix.now positions.now) command.now
             deltas.now list self.old }
         ensures ok { IfOk result
-            (IsStep (Some start) (shown_by prefix.now positions.now) command.now deltas.now list self.old self.new) }
+            (IsStep rollback.now (shown_by prefix.now positions.now) command.now deltas.now list self.old self.new) }
         ensures err { OnErr result (contents self.new ≡ contents self.old) }
         ensures stopped { (limit : ℕ) → IsLimited limit self.old → IfErr result
-            (IsStopped limit (Some start) (shown_by prefix.now positions.now) command.now deltas.now list (own_of self.old)) }
+            (IsStopped limit rollback.now (shown_by prefix.now positions.now) command.now deltas.now list (own_of self.old)) }
         ensures room { OnErr result (IsNoMore (room_of self.old) (room_of self.new)) }
     {
-        if list == start {
-            return match self.begin(alloc, list, prefix, positions, command, deltas, steps) {
-                Ok(done) => Ok(Some(done)),
-                Err(why) => Err(why),
-            };
+        if let Some(delta) = delta_for(list, rollback) {
+            return self.take_back(list, delta);
         }
-        match self {
-            Keeps::Source(_) => Ok(None),
-            Keeps::Over { input, derived } => match deltas.get(*input) {
-                None => Ok(None),
-                Some(d) => match follow(derived, prefix, positions, *input, d, steps) {
-                    Ok((out, undo)) => Ok(Some((out, KeepsUndo::Over(undo)))),
-                    Err(fault) => Err(refusal_by(list, fault)),
-                },
-            },
-            Keeps::Composite { needed, composite } => {
-                if is_told(needed, deltas) {
-                    return match composite.advance(deltas) {
-                        Ok((out, undo)) => Ok(Some((out, KeepsUndo::Composite(undo)))),
-                        Err(fault) => Err(refusal_by(list, fault)),
-                    };
-                }
-                Ok(None)
-            }
+        if list != about(command) {
+            return self.follow(list, prefix, positions, deltas, steps);
+        }
+        match rollback {
+            Some(_) => Ok(self.drop_level()),
+            None => self.take(alloc, list, prefix, positions, command, steps),
         }
     }
 
-    // The list where the wave begins.
-    fn begin<L: Ledger>(
+    // The source of a rollback takes its delta.
+    fn take_back(&mut self, list: u32, delta: &Delta) -> Result<Turned, Refused>
+        requires { CanTakeBack delta.now.pieces self.old }
+        ensures ok { (shows : ℕ → List Tree)
+            → IfOk result (IsSourceStep shows delta.now.pieces list self.old self.new) }
+        ensures err { OnErr result (contents self.new ≡ contents self.old) }
+        ensures stopped { (limit : ℕ) (shows : ℕ → List Tree) → IsLimited limit self.old
+            → IfErr result (IsSourceStopped limit shows delta.now.pieces list (own_of self.old)) }
+        ensures room { OnErr result (IsNoMore (room_of self.old) (room_of self.new)) }
+    {
+        match self {
+            Keeps::Source(source) => {
+                let len = delta.new_len();
+                if len as u64 > source.limit() {
+                    return Err(Refused::TooLong {
+                        list,
+                        len: len as u128,
+                    });
+                }
+                let told = delta.copy()?;
+                let undo = source.apply(delta)?;
+                Ok(Turned::Told(told, KeepsUndo::Source(undo)))
+            }
+            _ => unreachable!(),
+        }
+    }
+
+    // The list that is rolled back drops its innermost level.
+    fn drop_level(&mut self) -> Turned
+        requires { HasLevel self.old }
+        ensures { HasDropped self.old self.new result }
+    {
+        match self {
+            Keeps::Held {
+                input: _,
+                held: Held::Transaction(transaction),
+            } => Turned::Silent(KeepsUndo::Held(transaction.drop_level())),
+            _ => unreachable!(),
+        }
+    }
+
+    // The list that a command is about takes it.
+    fn take<L: Ledger>(
         &mut self,
         alloc: Global,
         list: u32,
         prefix: &[Node],
         positions: &[u32],
         command: &Command,
-        deltas: &Deltas,
         steps: &mut Steps<L>,
-    ) -> Result<(Delta, KeepsUndo), Refused>
+    ) -> Result<Turned, Refused>
         requires settled { AreSettled prefix.now positions.now }
         requires later { OnInput (IsPlaced prefix.now positions.now) self.old }
         requires among { AreAmong self.old }
-        requires suits { Suits command.now (own_of self.old) }
-        requires stands { StandsFor self.old (shown_by prefix.now positions.now) }
+        requires can { CanTake (shown_by prefix.now positions.now) command.now self.old }
         ensures ok { IfOk result
-            (IsChanged (shown_by prefix.now positions.now) command.now self.old self.new) }
+            (IsOwnStep (shown_by prefix.now positions.now) command.now list self.old self.new) }
         ensures err { OnErr result (contents self.new ≡ contents self.old) }
         ensures stopped { (limit : ℕ) → IsLimited limit self.old → IfErr result
-            (IsStopped limit (Some list) (shown_by prefix.now positions.now) command.now deltas.now list (own_of self.old)) }
+            (IsOwnStopped limit (shown_by prefix.now positions.now) command.now list (own_of self.old)) }
         ensures room { OnErr result (IsNoMore (room_of self.old) (room_of self.new)) }
     {
         match self {
             Keeps::Source(source) => match edit_source(source, alloc, command) {
-                Ok((out, undo)) => Ok((out, KeepsUndo::Source(undo))),
+                Ok((out, undo)) => Ok(Turned::Told(out, KeepsUndo::Source(undo))),
                 Err(fault) => Err(refusal_of(list, fault)),
             },
             Keeps::Over { input, derived } => {
                 let (out, undo) = change(
                     derived, alloc, command, prefix, positions, *input, steps,
                 )?;
-                Ok((out, KeepsUndo::Over(undo)))
+                Ok(Turned::Told(out, KeepsUndo::Over(undo)))
             }
             Keeps::Composite {
                 needed: _,
                 composite,
-            } => {
-                match regroup(composite, list, prefix, positions, command) {
-                    Ok((out, undo)) => Ok((out, KeepsUndo::Composite(undo))),
+            } => match regroup(composite, list, prefix, positions, command) {
+                Ok((out, undo)) => Ok(Turned::Told(out, KeepsUndo::Composite(undo))),
+                Err(why) => Err(why),
+            },
+            Keeps::Held { input, held } => {
+                let len = shown_len(prefix, positions, *input);
+                match held.take(command, len) {
+                    Ok((told, undo)) => Ok(turned(told, undo)),
                     Err(why) => Err(why),
                 }
             }
+        }
+    }
+
+    // Any other list follows its inputs, or keeps what they tell.
+    fn follow<L: Ledger>(
+        &mut self,
+        list: u32,
+        prefix: &[Node],
+        positions: &[u32],
+        deltas: &Deltas,
+        steps: &mut Steps<L>,
+    ) -> Result<Turned, Refused>
+        requires settled { AreSettled prefix.now positions.now }
+        requires later { OnInput (IsPlaced prefix.now positions.now) self.old }
+        requires among { AreAmong self.old }
+        requires within { OnInput (λ i. i < length deltas.now) self.old }
+        requires can { CanFollow (shown_by prefix.now positions.now) deltas.now self.old }
+        ensures ok { IfOk result
+            (IsOtherStep (shown_by prefix.now positions.now) deltas.now list self.old self.new) }
+        ensures err { OnErr result (contents self.new ≡ contents self.old) }
+        ensures stopped { (limit : ℕ) → IsLimited limit self.old → IfErr result
+            (IsOtherStopped limit (shown_by prefix.now positions.now) deltas.now list (own_of self.old)) }
+        ensures room { OnErr result (IsNoMore (room_of self.old) (room_of self.new)) }
+    {
+        match self {
+            Keeps::Source(_) => Ok(Turned::Stays),
+            Keeps::Over { input, derived } => match deltas.get(*input) {
+                None => Ok(Turned::Stays),
+                Some(d) => match advance(derived, prefix, positions, *input, d, steps) {
+                    Ok((out, undo)) => Ok(Turned::Told(out, KeepsUndo::Over(undo))),
+                    Err(fault) => Err(refusal_by(list, fault)),
+                },
+            },
+            Keeps::Composite { needed, composite } => {
+                if !is_told(needed, deltas) {
+                    return Ok(Turned::Stays);
+                }
+                match composite.advance(deltas) {
+                    Ok((out, undo)) => Ok(Turned::Told(out, KeepsUndo::Composite(undo))),
+                    Err(fault) => Err(refusal_by(list, fault)),
+                }
+            }
+            Keeps::Held { input, held } => match deltas.get(*input) {
+                None => Ok(Turned::Stays),
+                Some(d) => Ok(keep(held, d)?),
+            },
         }
     }
 
@@ -213,74 +318,37 @@ impl Keeps {
                 } => composite.retreat(undo),
                 _ => unreachable!(),
             },
+            KeepsUndo::Held(undo) => match self {
+                Keeps::Held { input: _, held } => held.retreat(undo),
+                _ => unreachable!(),
+            },
+            KeepsUndo::Unchanged => {}
         }
     }
 }
 
-// A list takes another parameter, by what its input shows.
-fn change<L: Ledger>(
-    derived: &mut Derived,
-    alloc: Global,
-    command: &Command,
-    prefix: &[Node],
-    positions: &[u32],
-    input: u32,
-    steps: &mut Steps<L>,
-) -> Result<(Delta, DerivedUndo), AllocError>
-    requires settled { AreSettled prefix.now positions.now }
-    requires placed { IsPlaced prefix.now positions.now input }
-    requires gives { Gives (view_of_derived derived.old) (parameter_of command.now) }
-    requires stands { derived_keeps.StandsFor derived.old
-        (shown_by prefix.now positions.now input) }
-    ensures delta { IfOk result (λ told. told.0.pieces
-        ≡ parameter_change (parameter_of command.now) (view_of_derived derived.old) (shown_by prefix.now positions.now input)) }
-    ensures stands { OnOk result
-        (derived_keeps.StandsFor derived.new (shown_by prefix.now positions.now input)) }
-    ensures view { OnOk result
-        (view_of_derived derived.new ≡ view_after (parameter_of command.now) (view_of_derived derived.old)) }
-    ensures undo { IfOk result (λ told. derived_keeps.IsUndo told.1 derived.old derived.new) }
-    ensures err { OnErr result
-        (derived_keeps.contents derived.new ≡ derived_keeps.contents derived.old) }
-    ensures room { OnErr result
-        (IsNoMore (derived_keeps.room_of derived.old) (derived_keeps.room_of derived.new)) }
-    ensures limit { OnOk result
-        (derived_keeps.limit_of derived.new ≡ derived_keeps.limit_of derived.old) }
+// A list that can be held has taken a command, which tells this.
+fn turned(told: Option<Delta>, undo: HeldUndo) -> Turned
+    ensures { result ≡ turned_by told undo }
 {
-    let shelf = see(prefix, positions, input);
-    derived.change(alloc, command, &shelf, steps)
+    match told {
+        None => Turned::Silent(KeepsUndo::Held(undo)),
+        Some(d) => Turned::Told(d, KeepsUndo::Held(undo)),
+    }
 }
 
-// A list follows a change of its input.
-fn follow<L: Ledger>(
-    derived: &mut Derived,
-    prefix: &[Node],
-    positions: &[u32],
-    input: u32,
-    d: &Delta,
-    steps: &mut Steps<L>,
-) -> Result<(Delta, DerivedUndo), KernelFault>
-    requires settled { AreSettled prefix.now positions.now }
-    requires placed { IsPlaced prefix.now positions.now input }
-    requires leads { LeadsTo d.now.pieces (shown_by prefix.now positions.now input) }
-    requires stood { derived_keeps.StandsFor derived.old
-        (undone d.now.pieces (shown_by prefix.now positions.now input)) }
-    ensures delta { IfOk result (λ told. told.0.pieces
-        ≡ follow_of (view_of_derived derived.old) (undone d.now.pieces (shown_by prefix.now positions.now input)) d.now.pieces) }
-    ensures stands { OnOk result
-        (derived_keeps.StandsFor derived.new (shown_by prefix.now positions.now input)) }
-    ensures view { OnOk result (view_of_derived derived.new ≡ view_of_derived derived.old) }
-    ensures undo { IfOk result (λ told. derived_keeps.IsUndo told.1 derived.old derived.new) }
-    ensures err { OnErr result
-        (derived_keeps.contents derived.new ≡ derived_keeps.contents derived.old) }
-    ensures room { OnErr result
-        (IsNoMore (derived_keeps.room_of derived.old) (derived_keeps.room_of derived.new)) }
-    ensures limit { OnOk result
-        (derived_keeps.limit_of derived.new ≡ derived_keeps.limit_of derived.old) }
-    ensures over { IfErr result
-        (derived_keeps.IsOver derived.old (shown_by prefix.now positions.now input)) }
+// A list that can be held is told a delta of its input: while it is held it keeps that, else it tells it.
+fn keep(held: &mut Held, d: &Delta) -> Result<Turned, AllocError>
+    requires { BeginsWith (old_len d.now.pieces) (deltas_of held.old) }
+    ensures ok { IfOk result (HasKept d.now held.old held.new) }
+    ensures err { OnErr result (held_contents held.new ≡ held_contents held.old) }
+    ensures room { OnErr result (IsNoMore (held_room held.old) (held_room held.new)) }
 {
-    let shelf = see(prefix, positions, input);
-    derived.advance(&shelf, d, steps)
+    if held.is_held() {
+        let undo = held.compose(d)?;
+        return Ok(Turned::Silent(KeepsUndo::Held(undo)));
+    }
+    Ok(Turned::Told(d.copy()?, KeepsUndo::Unchanged))
 }
 
 /// Why a list that follows stops the command.
@@ -295,7 +363,7 @@ pub(crate) fn refusal_by(list: u32, fault: KernelFault) -> Refused
 
 // Why the command is refused.
 fn refusal_of(list: u32, fault: EditFault) -> Refused
-    ensures { IsRefusalOf list fault result }
+    ensures { IsRefusalByEdit list fault result }
 {
     match fault {
         EditFault::OutOfRange { index, len } => Refused::OutOfRange { index, len },

@@ -13,10 +13,12 @@ ghost use Rattle.gl_graph.specs.Graph.{IsLimited};
 ghost use Rattle.gl_graph.specs.Opening.{IsBuilt, IsOver, IsFaultBy};
 
 use crate::derived::Derived;
+use crate::held::Held;
 use crate::keeps::Keeps;
 use crate::node::Node;
-use crate::seen::{see, shown_len};
+use crate::seen::{len_of, see, shown_len};
 use gl_composite::Composite;
+use gl_held::{Freezable, Transaction};
 use gl_kernels::{
     Collection, Filter, Function, Grouping, KernelFault, RangeKernel, Sorted, Unique,
 };
@@ -47,7 +49,7 @@ pub(crate) fn opened<L: Ledger>(
         (length (shown_of (seen_through kind.now) (shown_by prefix.now positions.now)))) }
 {
     let keeps = made(alloc, kind, prefix, positions, limit, steps)?;
-    let len = keeps.len();
+    let len = len_of(prefix, positions, &keeps);
     if len as u64 > limit {
         return Err(OpenFault::TooLong { len: len as u128 });
     }
@@ -122,6 +124,14 @@ fn made<L: Ledger>(
                 limit,
             )
         }
+        ListKind::Transaction { input } => {
+            let transaction = Transaction::make(alloc);
+            Ok(held(*input, Held::Transaction(transaction)))
+        }
+        ListKind::Freezable { input } => {
+            let freezable = Freezable::make(alloc);
+            Ok(held(*input, Held::Freezable(freezable)))
+        }
         _ => unreachable!(),
     }
 }
@@ -140,6 +150,12 @@ fn over(input: u32, derived: Derived) -> Keeps
     ensures { result ≡ Keeps.Over input derived }
 {
     Keeps::Over { input, derived }
+}
+
+fn held(input: u32, held: Held) -> Keeps
+    ensures { result ≡ Keeps.Held input held }
+{
+    Keeps::Held { input, held }
 }
 
 // What a source keeps.

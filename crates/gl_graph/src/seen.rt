@@ -4,8 +4,11 @@ ghost use Rattle.std.specs.Prelude.{◌≡◌, ◌≤◌, ◌∷◌, [], length,
 ghost use Rattle.std.specs.Option.{option_copied};
 ghost use Rattle.gl_kernels.specs.CollectionStands.{children_at};
 ghost use Rattle.gl_graph.specs.declared.node.Node.{Node};
-ghost use Rattle.gl_graph.specs.Nodes.{shown_by, AreSettled, IsPlaced};
+ghost use Rattle.spec_states.specs.Shown.{shown_of};
+ghost use Rattle.gl_graph.specs.Nodes.{own_of, shown_by, OnInput, StandsFor, AreSettled, IsPlaced};
 
+use crate::keeps::Keeps;
+use crate::len::Len;
 use crate::node::Node;
 use crate::spot::Spot;
 use gl_kernels::Kids;
@@ -65,8 +68,8 @@ pub(crate) fn see<'a>(prefix: &'a [Node], positions: &'a [u32], list: u32) -> Se
     }
 }
 
-// The node of a list.
-fn node_of<'a>(prefix: &'a [Node], positions: &[u32], list: u32) -> &'a Node
+/// The node of a list.
+pub(crate) fn node_of<'a>(prefix: &'a [Node], positions: &[u32], list: u32) -> &'a Node
     requires { IsPlaced prefix.now positions.now list }
     ensures node { slice_get prefix.now (slice_index positions.now list) ≡ Some result.now }
     ensures list { result.now.list ≡ list }
@@ -80,7 +83,23 @@ pub(crate) fn shown_len(prefix: &[Node], positions: &[u32], list: u32) -> usize
     requires placed { IsPlaced prefix.now positions.now list }
     ensures { result ≡ length (shown_by prefix.now positions.now list) }
 {
-    node_of(prefix, positions, list).keeps.len()
+    match node_of(prefix, positions, list).keeps.len() {
+        Len::Is(len) => len,
+        Len::As(other) => shown_len(prefix, positions, other),
+    }
+}
+
+/// How many elements a list shows that keeps this, after the nodes at the front.
+pub(crate) fn len_of(prefix: &[Node], positions: &[u32], keeps: &Keeps) -> usize
+    requires settled { AreSettled prefix.now positions.now }
+    requires later { OnInput (IsPlaced prefix.now positions.now) keeps.now }
+    ensures { StandsFor keeps.now (shown_by prefix.now positions.now)
+        → result ≡ length (shown_of (own_of keeps.now) (shown_by prefix.now positions.now)) }
+{
+    match keeps.len() {
+        Len::Is(len) => len,
+        Len::As(other) => shown_len(prefix, positions, other),
+    }
 }
 
 // The child of a value at an index, if there is one.

@@ -1,4 +1,4 @@
-use Rattle.std.proofs.Common.{◌≡◌, refl, ap, sym}
+use Rattle.std.proofs.Common.{refl, ap, sym}
 use Rattle.gl_graph.specs.Kept.{Kept}
 use Rattle.gl_graph.specs.Nodes.{shown_by}
 use Rattle.gl_graph.proofs.MemberChanges.{attach_stopped}

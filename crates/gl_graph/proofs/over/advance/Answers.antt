@@ -7,7 +7,7 @@ use Rattle.gl_graph.specs.declared.derived.DerivedUndo.{DerivedUndo}
 use Rattle.gl_graph.specs.Derived.{view_of_derived, StandsFor, IsOver}
 use Rattle.gl_graph.specs.Nodes.{shown_by}
 use Rattle.gl_graph.specs.Kept.{Kept}
-use Rattle.gl_graph.proofs.keeps.follow.Goals as goal
+use Rattle.gl_graph.proofs.over.advance.Goals as goal
 
 pub returns-clause-delta : goal.returns-clause-delta
 returns-clause-delta g c =

@@ -6,7 +6,7 @@ use Rattle.gl_graph.specs.declared.derived.DerivedUndo.{DerivedUndo}
 use Rattle.gl_graph.specs.Derived.{view_of_derived, StandsFor}
 use Rattle.gl_graph.specs.Nodes.{shown_by}
 use Rattle.gl_graph.specs.Kept.{Kept}
-use Rattle.gl_graph.proofs.keeps.change.Goals as goal
+use Rattle.gl_graph.proofs.over.change.Goals as goal
 
 pub returns-clause-delta : goal.returns-clause-delta
 returns-clause-delta g c =
