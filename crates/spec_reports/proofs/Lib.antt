@@ -1,11 +1,9 @@
 pub mod Orders
 pub mod Words
 pub mod Answer
-pub use Rattle.spec_states.proofs.Plain
 pub use Rattle.spec_runs.proofs.Runs
 pub use Rattle.spec_states.proofs.Views
 pub use Rattle.spec_runs.proofs.KeptKinds
-pub use Rattle.spec_runs.proofs.PlainRuns
 pub use Rattle.spec_runs.proofs.Built
 pub use Rattle.spec_plan_texts.proofs.Rewritten
 pub use Rattle.spec_plans.proofs.Sound

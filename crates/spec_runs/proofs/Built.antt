@@ -84,6 +84,10 @@ built_unqueued p s built keeps list =
     unqueued_kind (own_at s list) (subst IsUnqueued (sym (keeps.kinds list))
     (kind_unqueued (own_at (opening p) list) (built_at (shown_first p) p.lists built list)))
 
+pub run_unqueued : (p : Plan) (order : List Actor) → is_built p ≡ true
+    → (list : ℕ) → IsUnqueued (own_at (run p order).state list)
+run_unqueued p order built = built_unqueued p (run p order).state built (run_kinds p order)
+
 -- so the state after one section more is that after its commands
 pub built_state_more : (p : Plan) (order : List Actor) (w : ℕ) → is_built p ≡ true
     → (run p (order ++ Writer w ∷ [])).state

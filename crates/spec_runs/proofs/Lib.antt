@@ -17,6 +17,5 @@ pub mod Limits
 pub mod Built
 pub mod Follows
 pub mod Proxies
-pub mod PlainRuns
 pub mod Finish
 pub mod EmptyQueues
