@@ -28,8 +28,8 @@ kind_built (kinds.Range input bounds) e = tt
 kind_built (kinds.Function input func) e = tt
 kind_built (kinds.Collection input kids) e = tt
 kind_built (kinds.Composite members may) e = all_true (members ++ may)
-kind_built (kinds.Transaction input) e = absurd cc
-kind_built (kinds.Freezable input) e = absurd cc
+kind_built (kinds.Transaction input) e = tt
+kind_built (kinds.Freezable input) e = tt
 kind_built (kinds.Proxy input) e = absurd cc
 
 all_built : (ds : List ListDecl) → list_all (λ d. is_built_kind d.kind) ds ≡ true → AreKindsBuilt ds

@@ -22,9 +22,24 @@ use Rattle.spec_runs.specs.Section.{composed_all}
 use Rattle.spec_runs.proofs.Sections.{old_len_leads, new_len_leads, composed_nothing, nothing_composed, composed_in, then_unchanged}
 use Rattle.spec_runs.proofs.KeptKinds.{Suits}
 use Rattle.spec_runs.proofs.Steps.{still_deltas}
-use Rattle.gl_graph.specs.Waves.{IsTold, AreTold}
+use Rattle.gl_graph.specs.declared.graph.Refused.{Refused}
+use Rattle.gl_graph.specs.declared.graph.Refused.TheVariants.{OutOfRange, TooLong, AlreadyFrozen, NotFrozen, NotOpen, Memory}
+use Rattle.gl_graph.specs.Waves.{IsTold, AreTold, IsRefused}
+use Rattle.gl_world.specs.Refusals.{reply_of}
 use Rattle.gl_world.specs.Joined.{IsJoined, AreJoined, Meet, AreMeeting}
 use Rattle.gl_world.specs.Section.{IsDeltaSofar, AreDeltas, Reach, GoOn}
+
+-- ---- a command that is refused
+
+-- its reply is the one that it is refused with
+pub unmoved_by : (limit : ℕ) (s : State) (command : Command) (why : Refused) (reply : Reply)
+    → IsRefused limit s command why → reply_of why ≡ Some reply → unmoved limit s command ≡ Some reply
+unmoved_by limit s command (OutOfRange index len) reply refused is = refused ∙ is
+unmoved_by limit s command (TooLong list len) reply refused is = refused ∙ is
+unmoved_by limit s command AlreadyFrozen reply refused is = refused ∙ is
+unmoved_by limit s command NotFrozen reply refused is = refused ∙ is
+unmoved_by limit s command NotOpen reply refused is = refused ∙ is
+unmoved_by limit s command Memory reply refused is = absurd cc
 
 -- ---- a command that changes something
 

@@ -13,13 +13,14 @@ use Rattle.spec_states.specs.State.{Own, State, source, over, composite, transac
 use Rattle.spec_states.specs.Wave.{parameter_of}
 use Rattle.spec_states.specs.Laws.{MayAttach}
 use Rattle.spec_runs.specs.Kinds.{class_of_own, HasClass, IsFor, IsChange}
-use Rattle.spec_states.proofs.Plain.{IsPlainOwn, IsPlain}
+use Rattle.spec_runs.proofs.Built.{IsUnqueued}
 use Rattle.gl_graph.specs.declared.keeps.Keeps.{Keeps}
-use Rattle.gl_graph.specs.declared.keeps.Keeps.TheVariants.{Source, Over, Composite}
+use Rattle.gl_graph.specs.declared.keeps.Keeps.TheVariants.{Source, Over, Composite, Held}
+use Rattle.gl_graph.specs.declared.held.Held.TheVariants as held
 use Rattle.gl_graph.specs.declared.node.Node.{Node}
 use Rattle.gl_graph.specs.Nodes.{own_of, own_of_node, own_in}
 use Rattle.gl_graph.specs.Graph.{Kept, state_of}
-use Rattle.gl_graph.specs.Commands.{IsEdit, IsMatcher, IsOrder, IsBounds, IsFunc, IsMembership, Suits}
+use Rattle.gl_graph.specs.Commands.{IsEdit, IsMatcher, IsOrder, IsBounds, IsFunc, IsMembership, IsOfLevels, IsOfFreezing, Suits}
 
 -- the command is one for the lists of a class
 abbrev ForClass : ListClass → Command → Type 0
@@ -30,8 +31,8 @@ ForClass class.Bounded command = IsBounds (parameter_of command)
 ForClass class.Mapped command = IsFunc (parameter_of command)
 ForClass class.Collected command = ⊥
 ForClass class.Composed command = IsMembership command
-ForClass class.Undone command = ⊤
-ForClass class.Frozen command = ⊤
+ForClass class.Undone command = IsOfLevels command
+ForClass class.Frozen command = IsOfFreezing command
 ForClass class.Pumped command = ⊤
 
 for_own : (command : Command) (own : Own) (needed : ListClass) → class_of_own own ≡ needed → ForClass needed command
@@ -66,42 +67,44 @@ suits_members (c.Attach list member) needed members h may = may
 suits_members (c.Detach list index) needed members h may = tt
 suits_members other needed members h may = absurd h
 
-suits_class : (command : Command) (own : Own) → IsPlainOwn own → ForClass (class_of_own own) command → MayAttach command own → Suits command own
-suits_class command (source contents) plain h may = h
-suits_class command (over input (filter matcher)) plain h may = h
-suits_class command (over input (sorted keys)) plain h may = h
-suits_class command (over input (unique keys)) plain h may = h
-suits_class command (over input (grouping keys)) plain h may = h
-suits_class command (over input (range bounds)) plain h may = h
-suits_class command (over input (function func)) plain h may = h
-suits_class command (over input (collection path)) plain h may = h
-suits_class command (composite needed members) plain h may = suits_members command needed members h may
-suits_class command (transaction input levels) plain h may = absurd plain
-suits_class command (freezable input since) plain h may = absurd plain
-suits_class command (proxy input kept queue) plain h may = absurd plain
+suits_class : (command : Command) (own : Own) → IsUnqueued own → ForClass (class_of_own own) command → MayAttach command own → Suits command own
+suits_class command (source contents) free h may = h
+suits_class command (over input (filter matcher)) free h may = h
+suits_class command (over input (sorted keys)) free h may = h
+suits_class command (over input (unique keys)) free h may = h
+suits_class command (over input (grouping keys)) free h may = h
+suits_class command (over input (range bounds)) free h may = h
+suits_class command (over input (function func)) free h may = h
+suits_class command (over input (collection path)) free h may = h
+suits_class command (composite needed members) free h may = suits_members command needed members h may
+suits_class command (transaction input levels) free h may = h
+suits_class command (freezable input since) free h may = h
+suits_class command (proxy input kept queue) free h may = absurd free
 
--- the lists of a graph are sources, lists over one input and composites
-plain_map : (f : ℕ → Own) → ((k : ℕ) → IsPlainOwn (f k)) → (ks : List ℕ) → IsPlain (map f ks)
-plain_map f h [] list = tt
-plain_map f h (k ∷ ks) zero = h k
-plain_map f h (k ∷ ks) (suc list) = plain_map f h ks list
+-- no list of a graph is a proxy
+unqueued_map : (f : ℕ → Own) → ((k : ℕ) → IsUnqueued (f k)) → (ks : List ℕ) → (list : ℕ) → IsUnqueued (own_at (map f ks) list)
+unqueued_map f h [] list = tt
+unqueued_map f h (k ∷ ks) zero = h k
+unqueued_map f h (k ∷ ks) (suc list) = unqueued_map f h ks list
 
-own_plain : (keeps : Keeps) → IsPlainOwn (own_of keeps)
-own_plain (Source k) = tt
-own_plain (Over input d) = tt
-own_plain (Composite needed k) = tt
+own_unqueued : (keeps : Keeps) → IsUnqueued (own_of keeps)
+own_unqueued (Source k) = tt
+own_unqueued (Over input d) = tt
+own_unqueued (Composite needed k) = tt
+own_unqueued (Held input (held.Transaction t)) = tt
+own_unqueued (Held input (held.Freezable since)) = tt
 
-node_plain : (node : Option Node) → IsPlainOwn (own_of_node node)
-node_plain None = tt
-node_plain (Some node) = own_plain node.keeps
+node_unqueued : (node : Option Node) → IsUnqueued (own_of_node node)
+node_unqueued None = tt
+node_unqueued (Some node) = own_unqueued node.keeps
 
-pub graph_plain : (k : Kept) → IsPlain (state_of k)
-graph_plain k =
-    plain_map (own_in k.nodes k.positions) (λ list. node_plain (slice_get k.nodes (slice_index k.positions list)))
-    (range_with_len 0 (length k.positions))
+pub graph_unqueued : (k : Kept) (list : ℕ) → IsUnqueued (own_at (state_of k) list)
+graph_unqueued k list =
+    unqueued_map (own_in k.nodes k.positions) (λ n. node_unqueued (slice_get k.nodes (slice_index k.positions n)))
+    (range_with_len 0 (length k.positions)) list
 
 pub graph_suits : (k : Kept) (command : Command) → IsFor command (state_of k) → IsChange command
     → Suits command (own_at (state_of k) (about command))
 graph_suits k command h change =
     let own : Own = own_at (state_of k) (about command) in
-    suits_class command own (graph_plain k (about command)) (by_class command own change h.suits) h.may
+    suits_class command own (graph_unqueued k (about command)) (by_class command own change h.suits) h.may

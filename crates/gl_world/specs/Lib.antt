@@ -4,5 +4,8 @@ pub mod Next
 pub mod Back
 pub mod Joined
 pub mod Section
+pub mod Refusals
 pub use Rattle.gl_tell.specs.Told
 pub use Rattle.gl_tell.specs.declared.telling.Telling
+pub use Rattle.gl_graph.specs.Holds
+pub use Rattle.gl_graph.specs.declared.hold.Hold

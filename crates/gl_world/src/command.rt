@@ -6,6 +6,7 @@ ghost use Rattle.spec_states.specs.Laws.{IsSound};
 ghost use Rattle.spec_runs.specs.Kinds.{IsFor, IsChange};
 ghost use Rattle.gl_graph.specs.Graph.{state_of};
 ghost use Rattle.gl_world.specs.Back.{GoesOn};
+ghost use Rattle.gl_world.specs.Refusals.{reply_of};
 ghost use Rattle.gl_world.specs.Section.{Reach, GoOn};
 
 use crate::back::keep;
@@ -81,8 +82,23 @@ fn change<L: Ledger>(
             join_all(deltas, next, lists)?;
             Ok(Reply::Done)
         }
-        Err(Refused::OutOfRange { index, len }) => Ok(Reply::OutOfRange { index, len }),
-        Err(Refused::TooLong { list, len }) => Ok(Reply::TooLong { list, len }),
-        Err(Refused::Memory) => Err(Memory),
+        Err(refused) => match reply_to(refused) {
+            Some(reply) => Ok(reply),
+            None => Err(Memory),
+        },
+    }
+}
+
+// The reply to a command that is refused, unless it found no memory.
+fn reply_to(refused: Refused) -> Option<Reply>
+    ensures { result ≡ reply_of refused }
+{
+    match refused {
+        Refused::OutOfRange { index, len } => Some(Reply::OutOfRange { index, len }),
+        Refused::TooLong { list, len } => Some(Reply::TooLong { list, len }),
+        Refused::AlreadyFrozen => Some(Reply::AlreadyFrozen),
+        Refused::NotFrozen => Some(Reply::NotFrozen),
+        Refused::NotOpen => Some(Reply::NotOpen),
+        Refused::Memory => None,
     }
 }

@@ -12,7 +12,7 @@ mod section;
 mod show;
 mod world;
 
-pub use gl_graph::BuildFault;
+pub use gl_graph::{BuildFault, Hold};
 pub use gl_outside::Actor;
 pub use gl_plan::Reply;
 pub use gl_tell::{Event, Telling};

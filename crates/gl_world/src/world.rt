@@ -4,19 +4,21 @@ ghost use Rattle.std.specs.Prelude.{◌≡◌, ◌<◌, ◌≤◌, [], true, len
 ghost use Rattle.std.specs.Option.{option_copied};
 ghost use Rattle.spec_states.specs.Opening.{opening};
 ghost use Rattle.spec_states.specs.Shown.{EachShowsItsView};
+ghost use Rattle.spec_states.specs.State.{own_at};
 ghost use Rattle.spec_states.specs.Step.{too_long};
 ghost use Rattle.spec_runs.specs.Built.{is_built};
 ghost use Rattle.spec_runs.specs.Fits.{Fits};
 ghost use Rattle.spec_runs.specs.Run.{run, left_to, replies_at, shown_after};
 ghost use Rattle.spec_runs.specs.Telling.{listener_dependency_order};
 ghost use Rattle.gl_graph.specs.Build.{IsReason};
+ghost use Rattle.gl_graph.specs.Holds.{hold_of};
 ghost use Rattle.gl_tell.specs.Told.{tellings_of, IsFresh};
 
 use crate::back::retreat_all;
 use crate::log::Log;
 use crate::next::{Next, Spent};
 use crate::section::{Taken, take_all};
-use gl_graph::{BuildFault, Graph};
+use gl_graph::{BuildFault, Graph, Hold};
 use gl_outside::Actor;
 use gl_plan::{Plan, Reply};
 use gl_tell::{Teller, Telling};
@@ -152,6 +154,14 @@ impl<N: RunName> World<N> {
         ensures views { EachShowsItsView (run self.now.plan self.now.order).state }
     {
         self.graph.get(list, place)
+    }
+
+    /// Whether a list is held.
+    pub fn hold(&self, list: u32) -> Hold
+        requires { list < length self.now.plan.lists }
+        ensures { result ≡ hold_of (own_at (run self.now.plan self.now.order).state list) }
+    {
+        self.graph.hold(list)
     }
 
     /// Takes a writer's next section, as one entry; its place among the entries is answered. The room for its entry and its

@@ -1,15 +1,13 @@
 use Rattle.std.proofs.Common.{◌∙◌, ◌++◌, ◌∷◌, [], sym, subst}
 use Rattle.std.specs.Prelude.{List}
-use Rattle.spec_states.specs.Reply.TheVariants.{OutOfRange, TooLong}
 use Rattle.spec_runs.proofs.Steps.{still_state}
 use Rattle.spec_runs.proofs.Suits.{suits_list}
 use Rattle.gl_graph.specs.declared.graph.GraphUndo.{GraphUndo}
 use Rattle.gl_graph.specs.Graph.{Kept, state_of}
-use Rattle.gl_graph.specs.Waves.{IsRefused}
 use Rattle.gl_graph.proofs.Progress.{contents_same_state}
 use Rattle.gl_world.specs.Back.{GoesOn}
 use Rattle.gl_world.proofs.Backs.{goes_like, goes_more, goes_back}
-use Rattle.gl_world.proofs.Commands.{deltas_still, deltas_joined, are_meeting}
+use Rattle.gl_world.proofs.Commands.{unmoved_by, deltas_still, deltas_joined, are_meeting}
 use Rattle.gl_world.proofs.Suits.{graph_suits}
 use Rattle.gl_world.proofs.command.change.Goals as goal
 
@@ -64,50 +62,28 @@ returns-in_ok-join_all-in-Ok-clause-told g c =
     c.join_all.new.sofar c.requires.sound
     (suits_list (state_of old) c.args.command.now c.requires.suits) e.moves e.told c.in_ok-join_all-in-Ok.ensures
 
-pub returns-in-Err-OutOfRange-clause-back : goal.returns-in-Err-OutOfRange-clause-back
-returns-in-Err-OutOfRange-clause-back g c =
-    let e = c.in-Err-OutOfRange.ensures in
+pub returns-in-Some-clause-back : goal.returns-in-Some-clause-back
+returns-in-Some-clause-back g c =
+    let e = c.in-Err.ensures in
     goes_like c.args.undos.now.items c.args.graph.now c.wave.new.self e.err e.room
 
-pub returns-in-Err-OutOfRange-clause-state : goal.returns-in-Err-OutOfRange-clause-state
-returns-in-Err-OutOfRange-clause-state g c =
+pub returns-in-Some-clause-state : goal.returns-in-Some-clause-state
+returns-in-Some-clause-state g c =
     let old = c.args.graph.now in
-    let e = c.in-Err-OutOfRange.ensures in
+    let e = c.in-Err.ensures in
     contents_same_state c.wave.new.self old e.err
-    ∙ sym (still_state old.limit (state_of old) c.args.command.now
-    (OutOfRange c.in-Err-OutOfRange.index c.in-Err-OutOfRange.len)
-    (subst (IsRefused old.limit (state_of old) c.args.command.now) c.in-Err-OutOfRange.field-0-is e.refused))
+    ∙ sym (still_state old.limit (state_of old) c.args.command.now c.in-Some.reply
+    (unmoved_by old.limit (state_of old) c.args.command.now c.in-Err.refused c.in-Some.reply e.refused
+    (sym c.reply_to.ensures ∙ c.in-Some.is)))
 
-pub returns-in-Err-OutOfRange-clause-told : goal.returns-in-Err-OutOfRange-clause-told
-returns-in-Err-OutOfRange-clause-told g c =
+pub returns-in-Some-clause-told : goal.returns-in-Some-clause-told
+returns-in-Some-clause-told g c =
     let old = c.args.graph.now in
-    deltas_still old.limit (state_of old) c.args.command.now (OutOfRange c.in-Err-OutOfRange.index
-    c.in-Err-OutOfRange.len) c.args.deltas.now
-    (subst (IsRefused old.limit (state_of old) c.args.command.now) c.in-Err-OutOfRange.field-0-is
-    c.in-Err-OutOfRange.ensures.refused)
+    deltas_still old.limit (state_of old) c.args.command.now c.in-Some.reply c.args.deltas.now
+    (unmoved_by old.limit (state_of old) c.args.command.now c.in-Err.refused c.in-Some.reply c.in-Err.ensures.refused
+    (sym c.reply_to.ensures ∙ c.in-Some.is))
 
-pub returns-in-Err-TooLong-clause-back : goal.returns-in-Err-TooLong-clause-back
-returns-in-Err-TooLong-clause-back g c =
-    let e = c.in-Err-TooLong.ensures in
-    goes_like c.args.undos.now.items c.args.graph.now c.wave.new.self e.err e.room
-
-pub returns-in-Err-TooLong-clause-state : goal.returns-in-Err-TooLong-clause-state
-returns-in-Err-TooLong-clause-state g c =
-    let old = c.args.graph.now in
-    let e = c.in-Err-TooLong.ensures in
-    contents_same_state c.wave.new.self old e.err
-    ∙ sym (still_state old.limit (state_of old) c.args.command.now (TooLong c.in-Err-TooLong.list c.in-Err-TooLong.len)
-    (subst (IsRefused old.limit (state_of old) c.args.command.now) c.in-Err-TooLong.field-0-is e.refused))
-
-pub returns-in-Err-TooLong-clause-told : goal.returns-in-Err-TooLong-clause-told
-returns-in-Err-TooLong-clause-told g c =
-    let old = c.args.graph.now in
-    deltas_still old.limit (state_of old) c.args.command.now (TooLong c.in-Err-TooLong.list c.in-Err-TooLong.len)
-    c.args.deltas.now
-    (subst (IsRefused old.limit (state_of old) c.args.command.now) c.in-Err-TooLong.field-0-is
-    c.in-Err-TooLong.ensures.refused)
-
-pub returns-in-Err-Memory-clause-back : goal.returns-in-Err-Memory-clause-back
-returns-in-Err-Memory-clause-back g c =
-    let e = c.in-Err-Memory.ensures in
+pub returns-in-None-clause-back : goal.returns-in-None-clause-back
+returns-in-None-clause-back g c =
+    let e = c.in-Err.ensures in
     goes_like c.args.undos.now.items c.args.graph.now c.wave.new.self e.err e.room

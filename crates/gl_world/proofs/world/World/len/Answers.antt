@@ -14,6 +14,6 @@ returns-clause-few g c =
     let many : length w.plan.lists ≡ length c.args.self.now.plan.lists = ap (λ p. length p.lists) plan in
     let most : w.graph.limit ≡ c.args.self.now.plan.limit = c.self.invariant.limit ∙ ap (λ p. p.limit) plan in
     let few : length (shown (state_of w.graph) c.args.list) ≤ w.graph.limit =
-    shown_few w.graph.limit (state_of w.graph) c.args.list c.law.ensures.ordered c.law.ensures.within
+    shown_few w.graph.limit (state_of w.graph) c.args.list c.law.ensures.sound.ordered c.law.ensures.within
     (omega (arith, lists, many, c.requires)) in
     omega (arith, few, most, c.len.ensures)
