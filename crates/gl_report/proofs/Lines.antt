@@ -1,65 +1,78 @@
 -- Writing the lines of entries and of lists one after another.
 use Rattle.std.proofs.Common.{◌≡◌, ◌∙◌, ℕ, zero, suc, ◌+◌, ◌-◌, ◌<◌, ◌≤◌, ◌++◌, List, [], ◌∷◌, length, get_or, take, drop, ap, sym, arith, append_assoc, append-nil, eq-eqb, refl, subst}
-use Rattle.std.specs.Prelude.{unwrap_or, slice_get, codes}
+use Rattle.std.specs.Prelude.{unwrap_or, slice_get, codes, Some, None}
 use Rattle.std.proofs.lemmas.List.{take_all, length-drop}
 use Rattle.gl_outside.specs.declared.gate.Actor.{Actor}
 use Rattle.gl_lines.specs.declared.plan.ListDecl.{ListDecl}
 use Rattle.gl_lines.specs.declared.plan.ListenerDecl.{ListenerDecl}
 use Rattle.gl_lines.specs.declared.reply.Reply.{Reply}
+use Rattle.gl_value.specs.Tree.{Tree}
 use Rattle.spec_reports.specs.Plan.{Plan}
 use Rattle.spec_reports.specs.State.{Own, State, source, over, composite, transaction, freezable, proxy, own_at}
 use Rattle.spec_reports.specs.Shown.{Table, shows_in}
 use Rattle.spec_reports.specs.Telling.{Telling}
 use Rattle.spec_reports.specs.ValueText.{spelled_list}
-use Rattle.spec_reports.proofs.Plain.{IsPlainOwn}
+use Rattle.spec_reports.proofs.Built.{IsUnqueued}
 use Rattle.spec_reports.specs.Report.{line_feed, refused_lines, held_line, told_lines, told_first, told_later, entry_lines, list_lines, listener_name}
 use Rattle.spec_reports.specs.Event.{event_text}
 use Rattle.gl_world.specs.Telling.{Telling as Told}
 use Rattle.gl_world.specs.Told.{telling_data, tellings_of}
+use Rattle.gl_world.specs.Holds.{hold_of}
+use Rattle.gl_report.specs.Held.{hold_line}
 use Rattle.gl_report.specs.Lines.{spelled_entry, list_line, told_line}
 
--- a list that is no transaction list, freezable list or proxy is never held
-held_plain : (name : List ℕ) (own : Own) → IsPlainOwn own → held_line name own ≡ []
-held_plain name (source contents) plain = refl
-held_plain name (over input view) plain = refl
-held_plain name (composite needed members) plain = refl
-held_plain name (transaction input levels) plain = absurd plain
-held_plain name (freezable input since) plain = absurd plain
-held_plain name (proxy input kept queue) plain = absurd plain
+-- the line of a list that is held, unless it is a proxy
+held_by : (name : List ℕ) (own : Own) → IsUnqueued own → held_line name own ≡ hold_line name (hold_of own)
+held_by name (source contents) free = refl
+held_by name (over input view) free = refl
+held_by name (composite needed members) free = refl
+held_by name (transaction input []) free = refl
+held_by name (transaction input (level ∷ levels)) free = refl
+held_by name (freezable input None) free = refl
+held_by name (freezable input (Some since)) free = refl
+held_by name (proxy input kept queue) free = absurd free
+
+-- what is written of a list that shows these values and keeps this
+abbrev lines_of : List ℕ → List Tree → Own → List ℕ
+lines_of name values own = list_line name values ++ hold_line name (hold_of own)
 
 list_step : (lists : List ListDecl) (shown : Table) (state : State) (k : ℕ) (d : ListDecl) → k < length lists
-    → length lists ≡ length shown → length lists ≡ length state → d ≡ get_or lists k d → IsPlainOwn (own_at state k)
+    → length lists ≡ length shown → length lists ≡ length state → d ≡ get_or lists k d → IsUnqueued (own_at state k)
     → list_lines (drop k lists) (drop k shown) (drop k state)
-    ≡ list_line d.name (shows_in shown k) ++ list_lines (drop (suc k) lists) (drop (suc k) shown) (drop (suc k) state)
-list_step [] shown state k d within same many is plain = absurd (omega arith)
-list_step (e ∷ lists) [] state k d within same many is plain = absurd (omega arith)
-list_step (e ∷ lists) (values ∷ shown) [] k d within same many is plain = absurd (omega arith)
-list_step (e ∷ lists) (values ∷ shown) (own ∷ state) zero d within same many is plain =
+    ≡ lines_of d.name (shows_in shown k) (own_at state k) ++ list_lines (drop (suc k) lists) (drop (suc k) shown) (drop (suc k) state)
+list_step [] shown state k d within same many is free = absurd (omega arith)
+list_step (e ∷ lists) [] state k d within same many is free = absurd (omega arith)
+list_step (e ∷ lists) (values ∷ shown) [] k d within same many is free = absurd (omega arith)
+list_step (e ∷ lists) (values ∷ shown) (own ∷ state) zero d within same many is free =
     let rest : List ℕ = list_lines lists shown state in
-    let line : List ℕ = list_line e.name values in
-    ap (λ h. codes "list " ++ e.name ++ codes " " ++ spelled_list values ++ line_feed ++ h ++ rest) (held_plain e.name own plain)
-    ∙ parted (codes "list ") e.name (codes " ") (spelled_list values) line_feed rest
-    ∙ ap (λ x. list_line x.name values ++ rest) (sym is)
+    ap (λ h. codes "list " ++ e.name ++ codes " " ++ spelled_list values ++ line_feed ++ h ++ rest) (held_by e.name own free)
+    ∙ parted (codes "list ") e.name (codes " ") (spelled_list values) line_feed (hold_line e.name (hold_of own)) rest
+    ∙ ap (λ x. lines_of x.name values own ++ rest) (sym is)
   where
-    parted : (a b c d e rest : List ℕ) → a ++ b ++ c ++ d ++ e ++ [] ++ rest ≡ (a ++ b ++ c ++ d ++ e) ++ rest
-    parted a b c d e rest = simp (append_assoc, append-nil) refl
-list_step (e ∷ lists) (values ∷ shown) (own ∷ state) (suc k) d within same many is plain =
-    list_step lists shown state k d (omega arith) (omega arith) (omega arith) is plain
+    parted : (a b c d e h rest : List ℕ) → a ++ b ++ c ++ d ++ e ++ h ++ rest ≡ ((a ++ b ++ c ++ d ++ e) ++ h) ++ rest
+    parted a b c d e h rest = simp append_assoc refl
+list_step (e ∷ lists) (values ∷ shown) (own ∷ state) (suc k) d within same many is free =
+    list_step lists shown state k d (omega arith) (omega arith) (omega arith) is free
 
 -- one list more is written, of those from a place on
 pub list_more : (out before : List ℕ) (lists : List ListDecl) (shown : Table) (state : State) (k : ℕ) (d : ListDecl)
     → k < length lists → length lists ≡ length shown → length lists ≡ length state → d ≡ get_or lists k d
-    → IsPlainOwn (own_at state k)
+    → IsUnqueued (own_at state k)
     → out ++ list_lines (drop k lists) (drop k shown) (drop k state) ≡ before
-    → (out ++ list_line d.name (shows_in shown k)) ++ list_lines (drop (k + 1) lists) (drop (k + 1) shown) (drop (k + 1) state)
+    → ((out ++ list_line d.name (shows_in shown k)) ++ hold_line d.name (hold_of (own_at state k)))
+    ++ list_lines (drop (k + 1) lists) (drop (k + 1) shown) (drop (k + 1) state)
     ≡ before
-list_more out before lists shown state k d within same many is plain whole =
+list_more out before lists shown state k d within same many is free whole =
     let e : k + 1 ≡ suc k = omega arith in
+    let rest : List ℕ = list_lines (drop (k + 1) lists) (drop (k + 1) shown) (drop (k + 1) state) in
     let next : list_lines (drop k lists) (drop k shown) (drop k state)
-    ≡ list_line d.name (shows_in shown k) ++ list_lines (drop (k + 1) lists) (drop (k + 1) shown) (drop (k + 1) state) =
-    rw e (list_step lists shown state k d within same many is plain) in
-    append_assoc out (list_line d.name (shows_in shown k)) (list_lines (drop (k + 1) lists) (drop (k + 1) shown) (drop (k + 1) state))
+    ≡ lines_of d.name (shows_in shown k) (own_at state k) ++ rest =
+    rw e (list_step lists shown state k d within same many is free) in
+    regrouped out (list_line d.name (shows_in shown k)) (hold_line d.name (hold_of (own_at state k))) rest
     ∙ ap (λ l. out ++ l) (sym next) ∙ whole
+  where
+    regrouped : (a b c d : List ℕ) → ((a ++ b) ++ c) ++ d ≡ a ++ ((b ++ c) ++ d)
+    regrouped a b c d = simp append_assoc refl
 
 -- one write-back more is written, of those that are left
 pub refused_more : (out before name : List ℕ) (count k : ℕ) → k < count

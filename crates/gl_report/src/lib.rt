@@ -6,6 +6,7 @@
 
 mod entries;
 mod event;
+mod held;
 mod lists;
 mod order;
 mod replies;

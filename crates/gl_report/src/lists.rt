@@ -7,11 +7,12 @@ ghost use Rattle.spec_reports.specs.ValueText.{spelled_list};
 ghost use Rattle.spec_reports.specs.Report.{list_lines};
 ghost use Rattle.gl_report.specs.Lines.{list_line};
 
+use crate::held::write_held;
 use gl_syntax::{add_comma, add_value};
 use gl_value::{Bytes, Memory};
 use gl_world::{RunName, World};
 
-/// Adds a line for each list of a world, in number order.
+/// Adds a line for each list of a world, in number order, and after it how the list is held.
 pub fn write_lists<N: RunName>(world: &World<N>, out: &mut Bytes) -> Result<(), Memory>
     ensures { OnOk result
         (out.new ≡ out.old
@@ -21,7 +22,9 @@ pub fn write_lists<N: RunName>(world: &World<N>, out: &mut Bytes) -> Result<(), 
     let plan = world.plan();
     let lists = plan.lists();
     for (list, decl) in lists.iter().enumerate() {
-        write_list(world, list as u32, decl.name.text().bytes(), out)?;
+        let name = decl.name.text().bytes();
+        write_list(world, list as u32, name, out)?;
+        write_held(world.hold(list as u32), name, out)?;
     }
     Ok(())
 }

@@ -5,7 +5,7 @@ use Rattle.spec_reports.specs.Shown.{Table, table_of}
 use Rattle.spec_reports.proofs.Views.{length-table_of}
 use Rattle.spec_reports.specs.Run.{run}
 use Rattle.spec_reports.proofs.KeptKinds.{length-state}
-use Rattle.spec_reports.proofs.PlainRuns.{run_plain}
+use Rattle.spec_reports.proofs.Built.{run_unqueued}
 use Rattle.gl_report.proofs.Lines.{list_more}
 use Rattle.gl_report.proofs.lists.write_lists.Goals as goal
 
@@ -18,7 +18,8 @@ loop-list-preserved g c =
     let many : length lists ≡ length state = ap length (c.lists-lists.ensures.lists ∙ ap (λ p. p.lists) c.plan-plan.ensures.plan)
     ∙ sym (length-state plan c.args.world.now.order) in
     let same : length lists ≡ length shown = many ∙ sym (length-table_of state) in
-    rw c.in_ok-write_list.ensures (rw (c.bytes.ensures.value ∙ c.text.ensures.value)
+    rw (c.in_ok-write_held.ensures, c.in_ok-write_list.ensures, c.hold.ensures)
+    (rw (c.bytes-name.ensures.value ∙ c.text.ensures.value)
     (list_more c.loop-list.out _ lists shown state c.loop-list.list c.index-lists-list.result c.loop-list-test.true same many
-    c.index-lists-list.is (run_plain plan c.args.world.now.order c.plan-plan.ensures.built c.loop-list.list)
+    c.index-lists-list.is (run_unqueued plan c.args.world.now.order c.plan-plan.ensures.built c.loop-list.list)
     c.loop-list.invariant))
