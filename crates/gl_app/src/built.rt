@@ -17,15 +17,7 @@ fn is_built_kind(kind: &ListKind) -> bool
     ensures { result ≡ built.is_built_kind kind.now }
 {
     match kind {
-        ListKind::Source { .. } => true,
-        ListKind::Filter { .. } => true,
-        ListKind::Sorted { .. } => true,
-        ListKind::Unique { .. } => true,
-        ListKind::Grouping { .. } => true,
-        ListKind::Range { .. } => true,
-        ListKind::Function { .. } => true,
-        ListKind::Collection { .. } => true,
-        ListKind::Composite { .. } => true,
-        _ => false,
+        ListKind::Proxy { .. } => false,
+        _ => true,
     }
 }

@@ -116,7 +116,7 @@ fn checks_say_what_stands_in_a_text(rt: HostRuntime) -> Result<(), Fail> {
 const REPLAYS: [(&[u8], Status, &[u8]); 6] = [
     (b"", Status::Plan, b"plan: line 1 column 1: header\n"),
     (
-        b"glaze 1\nsource s\nfreezable f s\n",
+        b"glaze 1\nsource s\nproxy p s\n",
         Status::Plan,
         b"plan: unbuilt\n",
     ),
