@@ -36,20 +36,25 @@ held_by name (proxy input kept queue) free = absurd free
 abbrev lines_of : List ℕ → List Tree → Own → List ℕ
 lines_of name values own = list_line name values ++ hold_line name (hold_of own)
 
-list_step : (lists : List ListDecl) (shown : Table) (state : State) (k : ℕ) (d : ListDecl) → k < length lists
-    → length lists ≡ length shown → length lists ≡ length state → d ≡ get_or lists k d → IsUnqueued (own_at state k)
+list_step : (lists : List ListDecl) (shown : Table) (state : State) (k : ℕ) (d : ListDecl)
+    → k < length lists → length lists ≡ length shown → length lists ≡ length state
+    → d ≡ get_or lists k d → IsUnqueued (own_at state k)
     → list_lines (drop k lists) (drop k shown) (drop k state)
-    ≡ lines_of d.name (shows_in shown k) (own_at state k) ++ list_lines (drop (suc k) lists) (drop (suc k) shown) (drop (suc k) state)
+    ≡ lines_of d.name (shows_in shown k) (own_at state k)
+    ++ list_lines (drop (suc k) lists) (drop (suc k) shown) (drop (suc k) state)
 list_step [] shown state k d within same many is free = absurd (omega arith)
 list_step (e ∷ lists) [] state k d within same many is free = absurd (omega arith)
 list_step (e ∷ lists) (values ∷ shown) [] k d within same many is free = absurd (omega arith)
 list_step (e ∷ lists) (values ∷ shown) (own ∷ state) zero d within same many is free =
     let rest : List ℕ = list_lines lists shown state in
-    ap (λ h. codes "list " ++ e.name ++ codes " " ++ spelled_list values ++ line_feed ++ h ++ rest) (held_by e.name own free)
-    ∙ parted (codes "list ") e.name (codes " ") (spelled_list values) line_feed (hold_line e.name (hold_of own)) rest
+    ap (λ h. codes "list " ++ e.name ++ codes " " ++ spelled_list values ++ line_feed ++ h ++ rest)
+    (held_by e.name own free)
+    ∙ parted (codes "list ") e.name (codes " ") (spelled_list values) line_feed
+    (hold_line e.name (hold_of own)) rest
     ∙ ap (λ x. lines_of x.name values own ++ rest) (sym is)
   where
-    parted : (a b c d e h rest : List ℕ) → a ++ b ++ c ++ d ++ e ++ h ++ rest ≡ ((a ++ b ++ c ++ d ++ e) ++ h) ++ rest
+    parted : (a b c d e h rest : List ℕ)
+        → a ++ b ++ c ++ d ++ e ++ h ++ rest ≡ ((a ++ b ++ c ++ d ++ e) ++ h) ++ rest
     parted a b c d e h rest = simp append_assoc refl
 list_step (e ∷ lists) (values ∷ shown) (own ∷ state) (suc k) d within same many is free =
     list_step lists shown state k d (omega arith) (omega arith) (omega arith) is free

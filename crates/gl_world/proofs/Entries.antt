@@ -1,17 +1,15 @@
 -- A world with one entry more.
-use Rattle.std.proofs.Common.{◌≡◌, ◌≢◌, ◌∙◌, ℕ, ◌+◌, ◌<◌, ◌++◌, true, List, [], ◌∷◌, length, refl, ap, sym, arith, inl, inr, subst, slice_set, length-set, get_or-set_same, get_or-set_other, eq-eqb, append_assoc, append-nil}
-use Rattle.std.specs.Prelude.{Option, Some, None, slice_index, nat_lt}
+use Rattle.std.proofs.Common.{◌≡◌, ◌≢◌, ◌∙◌, ℕ, ◌+◌, ◌<◌, ◌++◌, List, [], ◌∷◌, length, refl, ap, sym, arith, inl, inr, subst, slice_set, length-set, get_or-set_same, get_or-set_other, eq-eqb, append_assoc, append-nil}
+use Rattle.std.specs.Prelude.{Option, Some, None, slice_index}
 use Rattle.std.specs.List.{AllByRecursion}
 use Rattle.std.proofs.lemmas.Bool.{cases_eq, ne_eqb}
-use Rattle.std.proofs.lemmas.Bool.Decides.{nat_tests}
 use Rattle.gl_outside.specs.declared.gate.Actor.{Actor}
 use Rattle.gl_outside.specs.declared.gate.Actor.TheVariants.{Writer}
 use Rattle.spec_states.specs.Command.{Command}
 use Rattle.spec_states.specs.Reply.{Reply}
 use Rattle.gl_delta.specs.Model.{DeltaModel}
 use Rattle.spec_states.specs.Plan.{Plan, commands_of, sections_of}
-use Rattle.spec_runs.specs.Built.{is_built}
-use Rattle.spec_states.specs.State.{State, own_at}
+use Rattle.spec_states.specs.State.{State}
 use Rattle.spec_states.specs.Shown.{table_of}
 use Rattle.spec_states.specs.Laws.{IsSound}
 use Rattle.spec_states.proofs.Views.{length-table_of}
@@ -19,9 +17,9 @@ use Rattle.spec_runs.specs.Kinds.{IsFor}
 use Rattle.spec_runs.specs.Section.{state_after, replies_to, section_deltas}
 use Rattle.spec_runs.specs.Telling.{tellings}
 use Rattle.spec_runs.specs.Entry.{taken_by}
-use Rattle.spec_runs.specs.Fits.{Fits, BadPlace, Reason, reason_at, bad_place_from}
-use Rattle.spec_runs.proofs.Runs.{state_more, replies_more, told_more, taken_more}
-use Rattle.spec_runs.proofs.KeptKinds.{length-state, within_entry_kinds}
+use Rattle.spec_runs.specs.Fits.{Fits, Reason, reason_at, bad_place_from}
+use Rattle.spec_runs.proofs.Runs.{replies_more, told_more, taken_more}
+use Rattle.spec_runs.proofs.KeptKinds.{length-state}
 use Rattle.spec_runs.proofs.Ordered.{run_sound, heard_within}
 use Rattle.spec_runs.proofs.Suits.{commands_suit}
 use Rattle.spec_runs.proofs.Built.{built_state_more}

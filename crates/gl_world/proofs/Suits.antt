@@ -9,7 +9,7 @@ use Rattle.spec_states.specs.ListClass.TheVariants as class
 use Rattle.spec_states.specs.Plan.{origin as about}
 use Rattle.spec_states.specs.WellFormed.{needed_class}
 use Rattle.spec_states.specs.View.{filter, sorted, unique, grouping, range, function, collection}
-use Rattle.spec_states.specs.State.{Own, State, source, over, composite, transaction, freezable, proxy, own_at}
+use Rattle.spec_states.specs.State.{Own, source, over, composite, transaction, freezable, proxy, own_at}
 use Rattle.spec_states.specs.Wave.{parameter_of}
 use Rattle.spec_states.specs.Laws.{MayAttach}
 use Rattle.spec_runs.specs.Kinds.{class_of_own, HasClass, IsFor, IsChange}
@@ -67,7 +67,8 @@ suits_members (c.Attach list member) needed members h may = may
 suits_members (c.Detach list index) needed members h may = tt
 suits_members other needed members h may = absurd h
 
-suits_class : (command : Command) (own : Own) → IsUnqueued own → ForClass (class_of_own own) command → MayAttach command own → Suits command own
+suits_class : (command : Command) (own : Own) → IsUnqueued own → ForClass (class_of_own own) command
+    → MayAttach command own → Suits command own
 suits_class command (source contents) free h may = h
 suits_class command (over input (filter matcher)) free h may = h
 suits_class command (over input (sorted keys)) free h may = h
@@ -82,7 +83,8 @@ suits_class command (freezable input since) free h may = h
 suits_class command (proxy input kept queue) free h may = absurd free
 
 -- no list of a graph is a proxy
-unqueued_map : (f : ℕ → Own) → ((k : ℕ) → IsUnqueued (f k)) → (ks : List ℕ) → (list : ℕ) → IsUnqueued (own_at (map f ks) list)
+unqueued_map : (f : ℕ → Own) → ((k : ℕ) → IsUnqueued (f k)) → (ks : List ℕ) (list : ℕ)
+    → IsUnqueued (own_at (map f ks) list)
 unqueued_map f h [] list = tt
 unqueued_map f h (k ∷ ks) zero = h k
 unqueued_map f h (k ∷ ks) (suc list) = unqueued_map f h ks list
@@ -100,7 +102,8 @@ node_unqueued (Some node) = own_unqueued node.keeps
 
 pub graph_unqueued : (k : Kept) (list : ℕ) → IsUnqueued (own_at (state_of k) list)
 graph_unqueued k list =
-    unqueued_map (own_in k.nodes k.positions) (λ n. node_unqueued (slice_get k.nodes (slice_index k.positions n)))
+    unqueued_map (own_in k.nodes k.positions)
+    (λ n. node_unqueued (slice_get k.nodes (slice_index k.positions n)))
     (range_with_len 0 (length k.positions)) list
 
 pub graph_suits : (k : Kept) (command : Command) → IsFor command (state_of k) → IsChange command

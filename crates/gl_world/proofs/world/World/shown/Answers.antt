@@ -1,4 +1,4 @@
-use Rattle.std.proofs.Common.{◌≡◌, ap, subst}
+use Rattle.std.proofs.Common.{subst}
 use Rattle.spec_states.specs.Shown.{EachShowsItsView}
 use Rattle.spec_runs.specs.Run.{run}
 use Rattle.spec_runs.proofs.Ordered.{views_of_run}
