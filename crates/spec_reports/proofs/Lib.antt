@@ -10,3 +10,4 @@ pub use Rattle.spec_plans.proofs.Sound
 pub use Rattle.spec_runs.proofs.Heard
 pub use Rattle.spec_runs.proofs.ToldAfter
 pub use Rattle.spec_runs.proofs.Ordered
+pub use Rattle.spec_runs.proofs.HeldLists

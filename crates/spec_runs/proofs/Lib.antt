@@ -19,3 +19,4 @@ pub mod Follows
 pub mod Proxies
 pub mod Finish
 pub mod EmptyQueues
+pub mod HeldLists

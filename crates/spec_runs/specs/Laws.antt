@@ -9,12 +9,29 @@ use Rattle.gl_outside.specs.declared.gate.Actor.{Actor}
 use Rattle.gl_lines.specs.declared.plan.ListKind.TheVariants as kinds
 use Rattle.gl_lines.specs.declared.plan.ListDecl.{ListDecl}
 use Rattle.gl_lines.specs.declared.plan.ListenerDecl.{ListenerDecl}
-use Rattle.spec_plans.specs.Plan.{Plan, listener_edges, proxies_of}
-use Rattle.spec_states.specs.State.{own_at}
+use Rattle.gl_lines.specs.declared.plan.Command.{Command}
+use Rattle.spec_plans.specs.Plan.{Plan, commands_of, listener_edges, proxies_of}
+use Rattle.spec_states.specs.State.{State, own_at}
+use Rattle.spec_states.specs.Shown.{IsHeld, shown}
+use Rattle.spec_states.specs.Step.{step}
+use Rattle.spec_runs.specs.Section.{state_after}
+use Rattle.spec_runs.specs.Entry.{taken_by}
 use Rattle.spec_runs.specs.Telling.{Telling}
 use Rattle.spec_runs.specs.Run.{run, shown_after}
 use Rattle.spec_runs.specs.Fits.{Fits, queue_of}
 use Rattle.spec_runs.specs.Prefix.{entry_delta, prefix}
+
+-- A list that is held after a command shows what it showed before it. So a frozen list shows what it showed at its freeze, and an
+-- open transaction list what it showed at its outermost begin.
+abbrev pub HeldStay : ℕ → State → Command → Type 0
+HeldStay limit s c = (list : ℕ) → list < length s → IsHeld (own_at (step limit s c).state list)
+    → shown (step limit s c).state list ≡ shown s list
+
+-- so it is at each command of each section that a writer takes after an order
+abbrev pub EachHeldStays : Plan → Type 0
+EachHeldStays p = (order : List Actor) (writer : ℕ) (before later : List Command) (c : Command)
+    → commands_of p writer (taken_by writer order) ≡ before ++ c ∷ later
+    → HeldStay p.limit (state_after p.limit (run p order).state before) c
 
 -- what was told to a listener, of these tellings: the deltas in the order told
 abbrev pub told_to : ℕ → List Telling → List Delta
