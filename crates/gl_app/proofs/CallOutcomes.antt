@@ -21,7 +21,7 @@ use Rattle.gl_app.specs.Status.{status_of}
 use Rattle.gl_app.specs.Reading.{Took, IsWhole}
 use Rattle.gl_app.specs.Answer.{status_at, text_at, AnswersBytes}
 use Rattle.gl_app.specs.Call.{Tells, AnswersRequest, AnswersWords, Answered, IsAnswer, Gives, ReportsRun, WritesPlan, MostText, IsAhead, HasReadFor, HasRead, IsAfterAll}
-use Rattle.gl_app.proofs.Plans.{views_of_spelled, hears_of_spelled, in_turn_of_spelled}
+use Rattle.gl_app.proofs.Plans.{views_of_spelled, held_of_spelled, hears_of_spelled, in_turn_of_spelled}
 use Rattle.gl_app.proofs.RequestOutcomes.{replayed_cases}
 use Rattle.spec_reports.proofs.Words.{one_request}
 
@@ -144,6 +144,7 @@ reported_run held old new bytes order o p told spells is e taken =
       fits = done.1;
       taken = subst (λ x. Appends old new (text_of_outcome x)) (is ∙ done.2) taken;
       views = λ n. views_of_spelled bytes p (take n order) spells;
+      stays = held_of_spelled bytes p spells;
       listeners = hears_of_spelled bytes p spells;
       in_turn = in_turn_of_spelled bytes p spells;
     }

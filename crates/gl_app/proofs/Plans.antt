@@ -1,5 +1,5 @@
--- What holds of each plan that a text spells: in every run each list shows its view of its inputs, each listener hears of its
--- list, and each is told after those that it depends on.
+-- What holds of each plan that a text spells: in every run each list shows its view of its inputs, unless it is held, and then what it
+-- did; each listener hears of its list, and each is told after those that it depends on.
 use Rattle.std.proofs.Common.{ℕ, List, sym, subst}
 use Rattle.gl_outside.specs.declared.gate.Actor.{Actor}
 use Rattle.spec_reports.specs.Plan.{Plan}
@@ -7,8 +7,9 @@ use Rattle.spec_reports.specs.Shown.{EachShowsItsView}
 use Rattle.spec_reports.specs.WellFormed.{IsWellFormed}
 use Rattle.spec_reports.proofs.Sound.{sound_lines_well_formed}
 use Rattle.spec_reports.specs.Text.{SpellsPlan}
-use Rattle.spec_reports.specs.Laws.{EachHears, EachToldAfterNeeded}
+use Rattle.spec_reports.specs.Laws.{EachHeldStays, EachHears, EachToldAfterNeeded}
 use Rattle.spec_reports.specs.Run.{run}
+use Rattle.spec_reports.proofs.HeldLists.{each_held_stays}
 use Rattle.spec_reports.proofs.Heard.{hears_well_formed}
 use Rattle.spec_reports.proofs.Ordered.{views_of_run}
 use Rattle.spec_reports.proofs.ToldAfter.{told_after_needed}
@@ -22,6 +23,10 @@ pub views_of_spelled : (bytes : List ℕ) (p : Plan) (order : List Actor) → Sp
     → EachShowsItsView (run p order).state
 views_of_spelled bytes p order spells =
     views_of_run p order (spelled_plan_formed bytes p spells) spells.acyclic
+
+-- each list that is held after a command shows what it showed before it
+pub held_of_spelled : (bytes : List ℕ) (p : Plan) → SpellsPlan bytes p → EachHeldStays p
+held_of_spelled bytes p spells = each_held_stays p (spelled_plan_formed bytes p spells) spells.acyclic
 
 -- and each listener hears of its list
 pub hears_of_spelled : (bytes : List ℕ) (p : Plan) → SpellsPlan bytes p → EachHears p

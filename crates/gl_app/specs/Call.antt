@@ -10,7 +10,7 @@ use Rattle.spec_reports.specs.Text.{SpellsPlan}
 use Rattle.spec_reports.specs.Short.{HasShortLines}
 use Rattle.spec_reports.specs.Built.{is_built}
 use Rattle.spec_reports.specs.Fits.{Fits}
-use Rattle.spec_reports.specs.Laws.{EachHears, EachToldAfterNeeded}
+use Rattle.spec_reports.specs.Laws.{EachHeldStays, EachHears, EachToldAfterNeeded}
 use Rattle.spec_reports.specs.Run.{run}
 use Rattle.spec_reports.specs.Words.{Request}
 use Rattle.spec_reports.specs.Report.{report}
@@ -119,8 +119,9 @@ Gives old new a Write = AppendsPrefix old new (text_at a)
 Gives old new a status = (status ≡ status_at a) × Appends old new (text_at a)
 
 -- The sink took the report of the plan that the bytes spell, in the order, which fits it. At each moment of its run each
--- list shows its view of what its inputs show. Each listener is told once of each entry that changes its list, and of no
--- other, after all listeners that it depends on, and replaying what it was told gives what its list shows.
+-- list that isn't held shows its view of what its inputs show, and at each command a list that is held after it shows
+-- what it showed before it. Each listener is told once of each entry that changes its list, and of no other, after all
+-- listeners that it depends on, and replaying what it was told gives what its list shows.
 pub record ReportsRun (order : List Actor) (held old new : Option (List ℕ)) : Type 0 where
   pub bytes : List ℕ
   pub told : Tells held bytes
@@ -130,6 +131,7 @@ pub record ReportsRun (order : List Actor) (held old new : Option (List ℕ)) : 
   pub fits : Fits plan order
   pub taken : Appends old new (report plan order)
   pub views : (n : ℕ) → EachShowsItsView (run plan (take n order)).state
+  pub stays : EachHeldStays plan
   pub listeners : EachHears plan
   pub in_turn : EachToldAfterNeeded plan
 
