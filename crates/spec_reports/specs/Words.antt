@@ -16,7 +16,7 @@ abbrev pub IsBuilt : Request → Type 0
 IsBuilt check = ⊤
 IsBuilt (replay order) = ⊤
 IsBuilt run = ⊥
-IsBuilt (big n) = ⊥
+IsBuilt (big n) = ⊤
 
 -- the words ask for the summary of this size
 pub record AsksBig (words : List (List ℕ)) (n : ℕ) : Type 0 where
