@@ -62,7 +62,7 @@ by_words words bytes taken o (a_cycle r names asks reads l h) =
 by_words words bytes taken o (a_plan r p asks reads l h e) = inr (inr (r, asks, reads, inr (l, inr (inr (p, h, e)))))
 
 -- words that ask for a size ask for no plan
-size_or_plan : (words : List (List ℕ)) (n : ℕ) (r : Request) → Asks words (big n) → Asks words r → Reads r → ⊥
+pub size_or_plan : (words : List (List ℕ)) (n : ℕ) (r : Request) → Asks words (big n) → Asks words r → Reads r → ⊥
 size_or_plan words n r h k reads = subst Reads (one_request words r (big n) k h) reads
 
 one_by_words : (words : List (List ℕ)) (bytes : List ℕ) (taken : List Actor) (a b : Outcome) → ByWords words bytes taken a

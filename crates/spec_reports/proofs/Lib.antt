@@ -1,6 +1,7 @@
 pub mod Orders
 pub mod Words
 pub mod Answer
+pub mod Summary
 pub use Rattle.spec_runs.proofs.Runs
 pub use Rattle.spec_states.proofs.Views
 pub use Rattle.spec_runs.proofs.KeptKinds

@@ -38,3 +38,7 @@ pub use Rattle.spec_syntax.specs.Cuts
 pub use Rattle.spec_plan_texts.specs.Canonical
 pub use Rattle.spec_plan_texts.specs.Short
 pub use Rattle.spec_runs.specs.Built
+pub use Rattle.spec_states.specs.Delta
+pub use Rattle.spec_plans.specs.Cycles
+pub use Rattle.spec_plans.specs.PlanNames
+pub use Rattle.spec_plans.specs.Numbered
