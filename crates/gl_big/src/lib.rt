@@ -10,4 +10,4 @@ mod plan;
 mod sections;
 
 pub use gl_plan::{Memory, Plan};
-pub use plan::{big_plan, big_plan_opens};
+pub use plan::big_plan;

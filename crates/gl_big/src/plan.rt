@@ -1,8 +1,6 @@
 //! The large plan.
 
-ghost use Rattle.std.specs.Prelude.{◌≡◌, ◌≤◌, ℕ, None, IfOk};
-ghost use Rattle.spec_states.specs.Opening.{opening};
-ghost use Rattle.spec_states.specs.Step.{too_long};
+ghost use Rattle.std.specs.Prelude.{◌≡◌, IfOk};
 ghost use Rattle.spec_reports.specs.Big.{big_plan as plan_of_size};
 
 use crate::lines::large_lines;
@@ -23,9 +21,3 @@ pub fn big_plan(alloc: Global, size: u32) -> Result<Plan, Memory>
         Err(PlanFault::Memory) => Err(Memory),
     }
 }
-
-/// None of its lists opens with more elements than the plan lets a list have.
-#[tactic(auto, using(crate::proofs::Opening::never_long))]
-pub fn big_plan_opens()
-    ensures { (size : ℕ) → size ≤ 10000 → too_long 16777216 (opening (plan_of_size size)) ≡ None }
-{}
