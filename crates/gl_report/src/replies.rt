@@ -76,8 +76,8 @@ fn write_list_name(lists: &[ListDecl], list: u32, out: &mut Bytes) -> Result<(),
     }
 }
 
-// Adds the length that a list would have, in decimal.
-fn add_length(len: u128, out: &mut Bytes) -> Result<(), Memory>
+/// Adds the length that a list would have, or the sum of lengths, in decimal.
+pub(crate) fn add_length(len: u128, out: &mut Bytes) -> Result<(), Memory>
     ensures { OnOk result (out.new ≡ out.old ++ decimal len) }
 {
     let mut buffer = Buffer::new();

@@ -4,7 +4,6 @@ use Rattle.std.specs.Prelude.{slice_get, option_map}
 use Rattle.std.proofs.lemmas.Option.{same_Some, none-some}
 use Rattle.spec_plans.specs.Tree.{Tree}
 use Rattle.gl_lines.specs.declared.plan.ListDecl.{ListDecl}
-use Rattle.gl_lines.specs.declared.plan.ListKind.{ListKind}
 use Rattle.gl_lines.specs.declared.plan.ListKind.TheVariants.{Source}
 use Rattle.spec_plans.specs.Plan.{Plan}
 use Rattle.spec_plans.specs.WellFormed.{IsWellFormed}
@@ -14,10 +13,7 @@ use Rattle.spec_states.specs.Shown.{shown, shown_of}
 use Rattle.spec_states.specs.Opening.{opening, shown_first}
 use Rattle.spec_states.proofs.Views.{shown_is}
 use Rattle.spec_runs.proofs.Ordered.{opening_sound}
-
--- the kind of the first list
-abbrev pub first_kind : Plan → Option ListKind
-first_kind p = option_map (λ d. d.kind) (slice_get p.lists 0)
+use Rattle.spec_reports.specs.Summary.{first_kind}
 
 -- where there is no list, nothing is shown
 pub no_first_list : (p : Plan) → None ≡ slice_get p.lists 0 → 0 ≡ length (shown (opening p) 0)

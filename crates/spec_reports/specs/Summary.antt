@@ -1,10 +1,11 @@
 -- The summary of a plan in an order: how much was told, and how long the lists are at the end.
-use Rattle.std.specs.Prelude.{ℕ, ◌+◌, suc, ◌==◌, if◌then◌else◌, List, [], ◌∷◌, ◌++◌, codes, decimal, length, sum, map}
+use Rattle.std.specs.Prelude.{ℕ, ◌+◌, suc, ◌==◌, if◌then◌else◌, List, [], ◌∷◌, ◌++◌, codes, decimal, length, sum, map, Option, option_map, slice_get}
 use Rattle.spec_plans.specs.Tree.{Tree}
 use Rattle.spec_states.specs.Delta.{Delta}
 use Rattle.spec_states.specs.Changes.{changed_len}
 use Rattle.gl_outside.specs.declared.gate.Actor.{Actor}
 use Rattle.gl_lines.specs.declared.plan.ListDecl.{ListDecl}
+use Rattle.gl_lines.specs.declared.plan.ListKind.{ListKind}
 use Rattle.gl_lines.specs.declared.plan.ListenerDecl.{ListenerDecl}
 use Rattle.spec_plans.specs.Plan.{Plan}
 use Rattle.spec_states.specs.Shown.{Table, shows_in, table_of}
@@ -33,6 +34,10 @@ length_lines (d ∷ lists) [] = []
 length_lines (d ∷ lists) (values ∷ shown) =
     codes "length " ++ d.name ++ codes " " ++ decimal (length values) ++ line_feed
     ++ length_lines lists shown
+
+-- the kind of the first list
+abbrev pub first_kind : Plan → Option ListKind
+first_kind p = option_map (λ d. d.kind) (slice_get p.lists 0)
 
 -- the opening length of the first list, the number of entries, what was told, and what each list's length is at the end
 abbrev pub summary : Plan → List Actor → List ℕ
