@@ -11,34 +11,37 @@ use Rattle.spec_reports.specs.Fits.{Fits}
 use Rattle.spec_reports.specs.Order.{AsksReplay}
 use Rattle.spec_reports.specs.Words.{Request, check, replay, run, big, Asks, HaveNoForm}
 use Rattle.spec_reports.specs.Report.{report}
-use Rattle.spec_reports.proofs.Answer.{reads_plan}
+use Rattle.spec_reports.specs.Big.{big_summary}
+use Rattle.spec_reports.proofs.Answer.{size_or_plan}
 use Rattle.spec_reports.specs.Answer.{Outcome, usage, too_large, reported, ComesTo, no_form, a_size, large, a_fault, a_cycle, a_plan, answer_of, replayed, text_of_outcome, most_bytes}
 use Rattle.gl_app.specs.declared.status.Status.{Status}
 use Rattle.gl_app.specs.declared.status.Status.TheVariants.{Done, Usage, Plan as PlanStatus, Read, Write, Memory, Order, TooLarge, TooLong}
 use Rattle.gl_app.specs.declared.answer.Answer.{Answer}
 use Rattle.gl_app.specs.declared.answer.Answer.TheVariants as answer
+use Rattle.gl_app.specs.declared.words.PlanRequest.{PlanRequest}
+use Rattle.gl_app.specs.Words.{request_of_plan}
 use Rattle.gl_app.specs.Status.{status_of}
 use Rattle.gl_app.specs.Reading.{Took, IsWhole}
-use Rattle.gl_app.specs.Answer.{status_at, text_at, AnswersBytes}
-use Rattle.gl_app.specs.Call.{Tells, AnswersRequest, AnswersWords, Answered, IsAnswer, Gives, ReportsRun, WritesPlan, MostText, IsAhead, HasReadFor, HasRead, IsAfterAll}
+use Rattle.gl_app.specs.Answer.{status_at, text_at, IsOf, AnswersBytes}
+use Rattle.gl_app.specs.Call.{Tells, AnswersRequest, AnswersWords, Answered, IsAnswer, Gives, ReportsRun, WritesPlan, MostText, IsAhead, IsSummary, AskForNoSize, HasReadFor, HasRead, IsAfterAll}
 use Rattle.gl_app.proofs.Plans.{views_of_spelled, held_of_spelled, hears_of_spelled, in_turn_of_spelled}
-use Rattle.gl_app.proofs.RequestOutcomes.{replayed_cases}
-use Rattle.spec_reports.proofs.Words.{one_request}
+use Rattle.gl_app.proofs.RequestOutcomes.{reads_of, replayed_cases}
+use Rattle.spec_reports.proofs.Words.{one_request, one_size}
 
 longer_than : (all taken rest : List ℕ) → all ≡ taken ++ rest → most_bytes < length taken → most_bytes < length all
 longer_than all taken rest e many = omega (arith, ap length e, length-append taken rest)
 
-with_too_large : (request : Request) (bytes : List ℕ) → most_bytes < length bytes
-    → AnswersBytes request bytes answer.TooLarge
+with_too_large : (request : PlanRequest) (bytes : List ℕ) → most_bytes < length bytes
+    → AnswersBytes (request_of_plan request) bytes answer.TooLarge
 with_too_large request bytes many = record {
   outcome = too_large;
-  comes = λ words asks. large request asks (reads_plan words request asks) many;
+  comes = λ words asks. large (request_of_plan request) asks (reads_of request) many;
   is = record { status = refl; text = refl };
 }
 
 -- more bytes were taken than a plan may have
-pub too_large_answer : (request : Request) (old new : Option (List ℕ)) → Took old new (λ n. most_bytes < n)
-    → AnswersRequest request old answer.TooLarge
+pub too_large_answer : (request : PlanRequest) (old new : Option (List ℕ)) → Took old new (λ n. most_bytes < n)
+    → AnswersRequest (request_of_plan request) old answer.TooLarge
 too_large_answer request None new took = record {
   bytes = took.taken;
   told = tt;
@@ -153,7 +156,8 @@ run_reported : (words : List (List ℕ)) (held old new : Option (List ℕ)) (byt
     (o : Outcome) → Tells held bytes → AsksReplay words order → ComesTo words bytes [] o → Done ≡ status_of o
     → Appends old new (text_of_outcome o) → ReportsRun order held old new
 run_reported words held old new bytes order o told asks (no_form none) e taken = cc
-run_reported words held old new bytes order o told asks (a_size n asked) e taken = absurd asked.0
+run_reported words held old new bytes order o told asks (a_size n asked) e taken =
+    absurd (size_or_plan words n (replay order) asked asks tt)
 run_reported words held old new bytes order o told asks (large r asked reads many) e taken = cc
 run_reported words held old new bytes order o told asks (a_fault r f asked reads few is) e taken = cc
 run_reported words held old new bytes order o told asks (a_cycle r names asked reads few is) e taken = cc
@@ -165,7 +169,7 @@ plan_written : (words : List (List ℕ)) (held old new : Option (List ℕ)) (byt
     → Tells held bytes → Asks words check → ComesTo words bytes [] o → Done ≡ status_of o
     → Appends old new (text_of_outcome o) → WritesPlan held old new
 plan_written words held old new bytes o told asks (no_form none) e taken = cc
-plan_written words held old new bytes o told asks (a_size n asked) e taken = absurd asked.0
+plan_written words held old new bytes o told asks (a_size n asked) e taken = absurd (size_or_plan words n check asked asks tt)
 plan_written words held old new bytes o told asks (large r asked reads many) e taken = cc
 plan_written words held old new bytes o told asks (a_fault r f asked reads few is) e taken = cc
 plan_written words held old new bytes o told asks (a_cycle r names asked reads few is) e taken = cc
@@ -208,6 +212,69 @@ writes_plan words held old new Order is asks e = cc
 writes_plan words held old new TooLarge is asks e = cc
 writes_plan words held old new TooLong is asks e = cc
 
+size_written : (words : List (List ℕ)) (old new : Option (List ℕ)) (bytes : List ℕ) (n : ℕ) (o : Outcome)
+    → Asks words (big n) → ComesTo words bytes [] o → Appends old new (text_of_outcome o) → Appends old new (big_summary n)
+size_written words old new bytes n o asks (no_form none) taken = absurd (none (big n) asks)
+size_written words old new bytes n o asks (a_size m asked) taken =
+    subst (λ k. Appends old new (big_summary k)) (one_size words m n asked.1 asks.1) taken
+size_written words old new bytes n o asks (large r asked reads many) taken =
+    absurd (size_or_plan words n r asks asked reads)
+size_written words old new bytes n o asks (a_fault r f asked reads few is) taken =
+    absurd (size_or_plan words n r asks asked reads)
+size_written words old new bytes n o asks (a_cycle r names asked reads few is) taken =
+    absurd (size_or_plan words n r asks asked reads)
+size_written words old new bytes n o asks (a_plan r p asked reads few spells is) taken =
+    absurd (size_or_plan words n r asks asked reads)
+
+-- or the summary of the size that the words ask for
+pub writes_summary : (words : List (List ℕ)) (held old new : Option (List ℕ)) (s : Status) → IsAnswer words held old new s
+    → (n : ℕ) → Asks words (big n) → s ≡ Done → Appends old new (big_summary n)
+writes_summary words held old new Done is n asks e = size_written words old new is.bytes n is.outcome asks is.comes is.taken
+writes_summary words held old new Usage is n asks e = cc
+writes_summary words held old new PlanStatus is n asks e = cc
+writes_summary words held old new Read is n asks e = cc
+writes_summary words held old new Write is n asks e = cc
+writes_summary words held old new Memory is n asks e = cc
+writes_summary words held old new Order is n asks e = cc
+writes_summary words held old new TooLarge is n asks e = cc
+writes_summary words held old new TooLong is n asks e = cc
+
+-- words that ask for something of a plan ask for no summary
+pub plan_no_size : (words : List (List ℕ)) (request : PlanRequest) (n : ℕ) → Asks words (request_of_plan request)
+    → Asks words (big n) → ⊥
+plan_no_size words request n asks size = size_or_plan words n (request_of_plan request) size asks (reads_of request)
+
+-- the status of a summary, whatever the sink took
+pub summary_status : (old new : Option (List ℕ)) (a : Answer) (s : Status) → Gives old new a s → IsSummary (status_at a)
+    → IsSummary s
+summary_status old new a Write g h = tt
+summary_status old new a Read g h = subst IsSummary (sym g.0) h
+summary_status old new a Memory g h = tt
+summary_status old new a Done g h = tt
+summary_status old new a Usage g h = subst IsSummary (sym g.0) h
+summary_status old new a PlanStatus g h = subst IsSummary (sym g.0) h
+summary_status old new a Order g h = subst IsSummary (sym g.0) h
+summary_status old new a TooLarge g h = subst IsSummary (sym g.0) h
+summary_status old new a TooLong g h = subst IsSummary (sym g.0) h
+
+-- the words ask for the summary of a size, which is the answer
+pub size_answer : (words : List (List ℕ)) (held : Option (List ℕ)) (n : ℕ) (a : Answer) → Asks words (big n)
+    → IsOf a (reported (big_summary n)) → AnswersWords words held a
+size_answer words None n a asks is = record {
+  bytes = [];
+  told = tt;
+  outcome = reported (big_summary n);
+  comes = a_size n asks;
+  is = is;
+}
+size_answer words (Some all) n a asks is = record {
+  bytes = all;
+  told = refl;
+  outcome = reported (big_summary n);
+  comes = a_size n asks;
+  is = is;
+}
+
 -- what is asked for of a plan is never the usage
 abbrev IsNoUsage : Outcome → Type 0
 IsNoUsage o = Usage ≡ status_of o → ⊥
@@ -222,7 +289,7 @@ no_usage (big n) p = λ e. cc
 without_form : (words : List (List ℕ)) (bytes : List ℕ) (o : Outcome) → ComesTo words bytes [] o → Usage ≡ status_of o
     → HaveNoForm words
 without_form words bytes o (no_form none) e = none
-without_form words bytes o (a_size n asked) e = absurd asked.0
+without_form words bytes o (a_size n asked) e = cc
 without_form words bytes o (large r asked reads many) e = cc
 without_form words bytes o (a_fault r f asked reads few is) e = cc
 without_form words bytes o (a_cycle r names asked reads few is) e = cc

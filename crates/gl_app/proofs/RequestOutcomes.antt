@@ -14,12 +14,19 @@ use Rattle.spec_reports.specs.Built.{is_built}
 use Rattle.spec_reports.specs.Fits.{BadPlace, Fits, first_bad_place}
 use Rattle.spec_reports.specs.Report.{report, list_name}
 use Rattle.spec_reports.specs.Words.{Request, check, replay, run, big}
-use Rattle.spec_reports.proofs.Answer.{reads_plan}
-use Rattle.spec_reports.specs.Answer.{Outcome, faulty, circular, unbuilt, too_long, misfit, reported, taken, opened, replayed, answer_of, a_fault, a_cycle, a_plan, most_bytes}
+use Rattle.spec_reports.specs.Answer.{Outcome, Reads, faulty, circular, unbuilt, too_long, misfit, reported, taken, opened, replayed, answer_of, a_fault, a_cycle, a_plan, most_bytes}
+use Rattle.gl_app.specs.declared.words.PlanRequest.{PlanRequest}
+use Rattle.gl_app.specs.declared.words.PlanRequest.TheVariants.{Check, Replay}
+use Rattle.gl_app.specs.Words.{request_of_plan}
 use Rattle.gl_app.specs.declared.answer.Answer.{Answer}
 use Rattle.gl_app.specs.Status.{status_of}
 use Rattle.gl_app.specs.Answer.{status_at, IsOf, AnswersFault, AnswersBytes}
 use Rattle.gl_app.specs.Call.{IsAfterAll}
+
+-- what is asked for of a plan reads it
+pub reads_of : (request : PlanRequest) → Reads (request_of_plan request)
+reads_of Check = tt
+reads_of (Replay order) = tt
 
 -- no list opens too long
 pub opened_within : (p : Plan) (order : List Actor) (a : Answer) → first_too_long p.limit (opening p) ≡ None
@@ -33,22 +40,31 @@ pub opened_long : (p : Plan) (order : List Actor) (a : Answer) (list len : ℕ)
 opened_long p order a list len some is = subst (λ r. IsOf a (opened p order r)) (sym some) is
 
 -- the bytes spell a plan
-pub plan_answer : (request : Request) (bytes : List ℕ) (p : Plan) (a : Answer) → length bytes ≤ most_bytes
-    → SpellsPlan bytes p → IsOf a (answer_of request [] p) → AnswersBytes request bytes a
+pub plan_answer : (request : PlanRequest) (bytes : List ℕ) (p : Plan) (a : Answer) → length bytes ≤ most_bytes
+    → SpellsPlan bytes p → IsOf a (answer_of (request_of_plan request) [] p)
+    → AnswersBytes (request_of_plan request) bytes a
 plan_answer request bytes p a few spells is = record {
-  outcome = answer_of request [] p;
-  comes = λ words asks. a_plan request p asks (reads_plan words request asks) few spells refl;
+  outcome = answer_of (request_of_plan request) [] p;
+  comes = λ words asks. a_plan (request_of_plan request) p asks (reads_of request) few spells refl;
   is = is;
 }
 
 -- they spell none
-pub fault_answer : (request : Request) (bytes : List ℕ) (f : PlanFault) (a : Answer) → length bytes ≤ most_bytes
-    → IsFault bytes f → AnswersFault f a → AnswersBytes request bytes a
+pub fault_answer : (request : PlanRequest) (bytes : List ℕ) (f : PlanFault) (a : Answer) → length bytes ≤ most_bytes
+    → IsFault bytes f → AnswersFault f a → AnswersBytes (request_of_plan request) bytes a
 fault_answer request bytes (fault.At line column kind) a few is answers =
     let f = fault_at line column kind in
-    record { outcome = faulty f; comes = λ words asks. a_fault request f asks (reads_plan words request asks) few is; is = answers }
+    record {
+      outcome = faulty f;
+      comes = λ words asks. a_fault (request_of_plan request) f asks (reads_of request) few is;
+      is = answers;
+    }
 fault_answer request bytes (fault.Cycle names) a few is answers =
-    record { outcome = circular names; comes = λ words asks. a_cycle request names asks (reads_plan words request asks) few is; is = answers }
+    record {
+      outcome = circular names;
+      comes = λ words asks. a_cycle (request_of_plan request) names asks (reads_of request) few is;
+      is = answers;
+    }
 fault_answer request bytes fault.Memory a few is answers = absurd answers
 
 -- What a replay comes to, by its cases.

@@ -1,20 +1,21 @@
 -- An order that is read is spelled so, and one that is spelled is read again.
 use Rattle.std.proofs.Common.{◌≡◌, ◌∙◌, ℕ, ◌<◌, ◌^◌, Bool, true, false, not, cond, eqb, List, [], ◌∷◌, ◌++◌, map, Option, Some, None, refl, sym, ap, subst, arith, append_assoc, append-nil}
-use Rattle.std.specs.Prelude.{codes, decimal, bytes_eq, option_map, option_and_then, is_some}
+use Rattle.std.specs.Prelude.{◌≤◌, ◌&&◌, nat_le, codes, decimal, bytes_eq, option_map, option_and_then, is_some}
 use Rattle.std.specs.List.{AllByRecursion}
+use Rattle.std.proofs.lemmas.Bool.Decides.{nat_tests}
 use Rattle.std.proofs.lemmas.Bool.{and_parts, eqb-true, not-true, false≢true}
 use Rattle.std.proofs.lemmas.Option.{same_Some, none-some}
 use Rattle.std.proofs.lemmas.Slice.Eq.{bytes_eq-Decides}
 use Rattle.gl_outside.specs.declared.gate.Actor.{Actor}
 use Rattle.gl_outside.specs.declared.gate.Actor.TheVariants.{Writer, Proxy}
 use Rattle.spec_reports.specs.Order.{spelled_actor, spelled_rest, spelled_order, IsActor, AsksReplay}
-use Rattle.spec_reports.specs.Words.{Request, check, replay, run, big, Asks, HaveNoForm}
+use Rattle.spec_reports.specs.Words.{Request, check, replay, run, big, Asks, AsksBig, HaveNoForm}
 use Rattle.gl_syntax.specs.Numbers.{index_in}
 use Rattle.spec_reports.specs.Cuts.{cut, with_prefix}
 use Rattle.gl_syntax.proofs.LineCuts.{longer, lacks}
 use Rattle.gl_syntax.proofs.Numbers.{index_takes, index_again}
 use Rattle.gl_syntax.proofs.Digits.{decimal_lacks}
-use Rattle.gl_app.specs.Words.{actor_in, pieces, actors_in, order_in, asked}
+use Rattle.gl_app.specs.Words.{actor_in, pieces, actors_in, order_in, size_of, size_in, asked}
 use Rattle.spec_reports.proofs.Words.{one_request}
 
 -- where a comma stands, the first piece ends
@@ -154,17 +155,47 @@ asks_order keyword bs (Some order) request k h e =
     record { are = ap (λ w. w ∷ bs ∷ []) k ∙ ap (λ l. codes "replay" ∷ l ∷ []) spelled.0; actors = spelled.1 } in
     subst (Asks (keyword ∷ bs ∷ [])) (same_Some _ _ e) asks
 
-asks_at : (keyword bs : List ℕ) (request : Request) (t : Bool) → bytes_eq keyword (codes "replay") ≡ t
-    → cond t (option_map replay (order_in bs)) None ≡ Some request → Asks (keyword ∷ bs ∷ []) request
-asks_at keyword bs request true h e = asks_order keyword bs (order_in bs) request
+-- a size that is read is spelled so
+size_at : (m n : ℕ) (t : Bool) → (nat_le 1 m && nat_le m 10000) ≡ t → cond t (Some m) None ≡ Some n
+    → (m ≡ n) × (1 ≤ m) × (m ≤ 10000)
+size_at m n true h e =
+    let both = and_parts (nat_le 1 m) (nat_le m 10000) h in
+    (same_Some _ _ e, grind (arith, nat_tests, both.0), grind (arith, nat_tests, both.1))
+size_at m n false h e = absurd (none-some _ e)
+
+asks_size_of : (keyword bs : List ℕ) (m n : ℕ) → keyword ≡ codes "big" → index_in bs ≡ Some m → size_of m ≡ Some n
+    → Asks (keyword ∷ bs ∷ []) (big n)
+asks_size_of keyword bs m n k h e =
+    let within = size_at m n (nat_le 1 m && nat_le m 10000) refl e in
+    let spelled = index_takes bs m h in
+    let are = ap (λ w. w ∷ bs ∷ []) k ∙ ap (λ l. codes "big" ∷ l ∷ []) (spelled.1 ∙ ap decimal within.0) in
+    (tt, record { are = are; least = omega (arith, within.0, within.1); most = omega (arith, within.0, within.2) })
+
+asks_size : (keyword bs : List ℕ) (o : Option ℕ) (request : Request) → keyword ≡ codes "big"
+    → index_in bs ≡ o → option_map big (option_and_then size_of o) ≡ Some request → Asks (keyword ∷ bs ∷ []) request
+asks_size keyword bs None request k h e = absurd (none-some _ e)
+asks_size keyword bs (Some m) request k h e = by (size_of m) refl e
+  where
+    by : (s : Option ℕ) → size_of m ≡ s → option_map big s ≡ Some request → Asks (keyword ∷ bs ∷ []) request
+    by None is f = absurd (none-some _ f)
+    by (Some n) is f = subst (Asks (keyword ∷ bs ∷ [])) (same_Some _ _ f) (asks_size_of keyword bs m n k h is)
+
+asks_at : (keyword bs : List ℕ) (request : Request) (t u : Bool) → bytes_eq keyword (codes "replay") ≡ t
+    → bytes_eq keyword (codes "big") ≡ u
+    → cond t (option_map replay (order_in bs)) (cond u (option_map big (size_in bs)) None) ≡ Some request
+    → Asks (keyword ∷ bs ∷ []) request
+asks_at keyword bs request true u h k e = asks_order keyword bs (order_in bs) request
     ((bytes_eq-Decides keyword (codes "replay")).0 h) refl e
-asks_at keyword bs request false h e = absurd (none-some _ e)
+asks_at keyword bs request false true h k e = asks_size keyword bs (index_in bs) request
+    ((bytes_eq-Decides keyword (codes "big")).0 k) refl e
+asks_at keyword bs request false false h k e = absurd (none-some _ e)
 
 -- the words ask for what is read in them
 asks : (words : List (List ℕ)) (request : Request) → asked words ≡ Some request → Asks words request
 asks [] request e = absurd (none-some _ e)
 asks (keyword ∷ []) request e = alone_at keyword request (bytes_eq keyword (codes "check")) refl e
-asks (keyword ∷ bs ∷ []) request e = asks_at keyword bs request (bytes_eq keyword (codes "replay")) refl e
+asks (keyword ∷ bs ∷ []) request e =
+    asks_at keyword bs request (bytes_eq keyword (codes "replay")) (bytes_eq keyword (codes "big")) refl refl e
 asks (keyword ∷ bs ∷ more ∷ words) request e = absurd (none-some _ e)
 
 lacked : (b : ℕ) (bs : List ℕ) → lacks 44 (b ∷ bs) ≡ true → (eqb b 44 ≡ false) × (lacks 44 bs ≡ true)
@@ -209,11 +240,18 @@ order_again [] all = refl
 order_again (a ∷ order) all = rw (no_dash a (spelled_rest order)) (ap actors_in (pieces_again a order all.0 all.1)
     ∙ actors_again (a ∷ order) all)
 
+size_again : (n : ℕ) → 1 ≤ n → n ≤ 10000 → size_in (decimal n) ≡ Some n
+size_again n least most =
+    let low : nat_le 1 n ≡ true = grind (arith, nat_tests) in
+    let high : nat_le n 10000 ≡ true = grind (arith, nat_tests) in
+    ap (option_and_then size_of) (index_again n (omega arith)) ∙ rw (low, high) refl
+
 asked_again : (words : List (List ℕ)) (request : Request) → Asks words request → asked words ≡ Some request
 asked_again words check asks = ap asked asks
 asked_again words (replay order) asks = ap asked asks.are ∙ ap (option_map replay) (order_again order asks.actors)
 asked_again words run asks = absurd asks.0
-asked_again words (big n) asks = absurd asks.0
+asked_again words (big n) asks =
+    ap asked asks.1.are ∙ ap (option_map big) (size_again n asks.1.least asks.1.most)
 
 -- what the code says of a request that it found, and of none
 pub asks_what_is_asked : (words : List (List ℕ)) (request : Request) → Some request ≡ asked words → Asks words request

@@ -12,7 +12,7 @@ use Rattle.spec_reports.specs.Built.{is_built}
 use Rattle.spec_reports.specs.Fits.{Fits}
 use Rattle.spec_reports.specs.Laws.{EachHeldStays, EachHears, EachToldAfterNeeded}
 use Rattle.spec_reports.specs.Run.{run}
-use Rattle.spec_reports.specs.Words.{Request}
+use Rattle.spec_reports.specs.Words.{Request, big, Asks}
 use Rattle.spec_reports.specs.Report.{report}
 use Rattle.spec_reports.specs.Answer.{Outcome, ComesTo, text_of_outcome, most_bytes}
 use Rattle.gl_app.specs.declared.status.Status.{Status}
@@ -60,6 +60,17 @@ IsUsage Read = ⊥
 IsUsage Order = ⊥
 IsUsage TooLarge = ⊥
 IsUsage TooLong = ⊥
+
+-- the statuses of words that ask for a summary: no plan is read, and each of its entries fits
+abbrev pub IsSummary : Status → Type 0
+IsSummary Done = ⊤
+IsSummary Write = ⊤
+IsSummary Memory = ⊤
+IsSummary other = ⊥
+
+-- the words ask for no summary
+abbrev pub AskForNoSize : List (List ℕ) → Type 0
+AskForNoSize words = (n : ℕ) → ¬ Asks words (big n)
 
 -- the statuses that come after all of the source was read
 abbrev pub IsAfterAll : Status → Type 0

@@ -1,12 +1,14 @@
 //! The call that does a run without threads.
 
 ghost use Rattle.std.specs.Prelude.{◌≡◌, ◌+◌, ◌⊎◌, ℕ, List, length};
+ghost use Rattle.std.specs.Io.KnownBytes.{Appends};
 ghost use Rattle.gl_outside.specs.declared.gate.Actor.{Actor};
 ghost use Rattle.gl_outside.specs.Faults.{Rose};
 ghost use Rattle.spec_reports.specs.Order.{AsksReplay};
-ghost use Rattle.spec_reports.specs.Words.{Asks, HaveNoForm, check};
+ghost use Rattle.spec_reports.specs.Words.{Asks, HaveNoForm, check, big};
+ghost use Rattle.spec_reports.specs.Big.{big_summary};
 ghost use Rattle.gl_app.specs.Answer.{text_at};
-ghost use Rattle.gl_app.specs.Call.{Answered, IsAnswer, ReportsRun, WritesPlan, HasRead, IsUsage, IsAhead, MostText, Gives};
+ghost use Rattle.gl_app.specs.Call.{Answered, IsAnswer, ReportsRun, WritesPlan, AskForNoSize, HasRead, IsUsage, IsSummary, IsAhead, MostText, Gives};
 
 use crate::answer::Answer;
 use crate::outcome::{Stop, answer_words};
@@ -20,8 +22,9 @@ struct Replay;
 
 impl RunName for Replay {}
 
-/// Does what the words ask for: it reads the source to its end, and gives the sink one text. It takes memory for the
-/// bytes, their plan and, for a replay, its world, and for the text, which is made whole before the sink is given anything.
+/// Does what the words ask for: it reads the source to its end, unless they ask for a summary, and gives the sink one text.
+/// It takes memory for the bytes, their plan and, for a replay or a summary, its world, and for the text, which is made
+/// whole before the sink is given anything.
 pub fn plain<S: Source, K: Sink>(
     alloc: Global,
     words: &[Text],
@@ -40,10 +43,14 @@ pub fn plain<S: Source, K: Sink>(
         → ReportsRun order (S.remaining source.old) (K.contents sink.old) (K.contents sink.new) }
     ensures written { Asks words.now check → result ≡ Status.Done
         → WritesPlan (S.remaining source.old) (K.contents sink.old) (K.contents sink.new) }
+    ensures summary { (n : ℕ) → Asks words.now (big n) → result ≡ Status.Done
+        → Appends (K.contents sink.old) (K.contents sink.new) (big_summary n) }
 
     // What was taken of the source.
-    ensures reading { HasRead (S.remaining source.old) (S.remaining source.new) result }
+    ensures reading { AskForNoSize words.now
+        → HasRead (S.remaining source.old) (S.remaining source.new) result }
     ensures no_form { HaveNoForm words.now → IsUsage result × (source.new ≡ source.old) }
+    ensures size { (n : ℕ) → Asks words.now (big n) → IsSummary result × (source.new ≡ source.old) }
     ensures usage { result ≡ Status.Usage → HaveNoForm words.now }
 
     // The faults.

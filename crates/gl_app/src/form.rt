@@ -3,7 +3,7 @@
 ghost use Rattle.std.specs.Prelude.{◌≡◌, [], ◌∷◌, is_some};
 ghost use Rattle.gl_app.specs.Words.{pieces, actors_in, order_in, asked};
 
-use crate::words::read_actor;
+use crate::words::{read_actor, read_size};
 use gl_syntax::{Text, cut};
 
 /// Whether the words have the form of a request. It takes no memory.
@@ -12,10 +12,20 @@ pub fn have_form(words: &[Text]) -> bool
 {
     match words {
         [keyword] => keyword.bytes() == b"check".as_slice(),
-        [keyword, order] => {
-            keyword.bytes() == b"replay".as_slice() && spells_order(order.bytes())
-        }
+        [keyword, word] => have_pair_form(keyword.bytes(), word.bytes()),
         _ => false,
+    }
+}
+
+fn have_pair_form(keyword: &[u8], word: &[u8]) -> bool
+    ensures { result ≡ is_some (asked (keyword.now ∷ word.now ∷ [])) }
+{
+    if keyword == b"replay".as_slice() {
+        spells_order(word)
+    } else if keyword == b"big".as_slice() {
+        read_size(word).is_some()
+    } else {
+        false
     }
 }
 

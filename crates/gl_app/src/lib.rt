@@ -1,9 +1,10 @@
-//! The top call of the program: it reads the words, takes the source whole, and gives the sink the text of what it
-//! came to. What that is for which words and bytes is defined in `spec_reports`.
+//! The top call of the program: it reads the words, takes the source whole where they ask for something of its plan, and
+//! gives the sink the text of what it came to. What that is for which words and bytes is defined in `spec_reports`.
 //! A text is made whole before the sink is given anything.
 #![tactic(auto)]
 
 mod answer;
+mod big;
 mod built;
 mod call;
 mod form;

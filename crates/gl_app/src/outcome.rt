@@ -1,18 +1,19 @@
 //! What a call comes to, from its words and its source.
 
-ghost use Rattle.std.specs.Prelude.{◌≡◌, ◌≤◌, length, IfOk, IsErrOf};
+ghost use Rattle.std.specs.Prelude.{◌≡◌, ◌≤◌, ℕ, length, IfOk, IsErrOf};
 ghost use Rattle.gl_outside.specs.Faults.{Rose};
-ghost use Rattle.spec_reports.specs.Words.{HaveNoForm};
+ghost use Rattle.spec_reports.specs.Words.{Asks, HaveNoForm, big};
 ghost use Rattle.spec_reports.specs.Answer.{most_bytes};
 ghost use Rattle.gl_app.specs.Answer.{AnswersBytes, status_at};
-ghost use Rattle.gl_app.specs.Call.{AnswersRequest, AnswersWords, HasRead, status_after, IsUsage, IsAfterAll};
-ghost use Rattle.gl_app.specs.Words.{request_of};
+ghost use Rattle.gl_app.specs.Call.{AnswersRequest, AnswersWords, AskForNoSize, HasRead, status_after, IsUsage, IsSummary, IsAfterAll};
+ghost use Rattle.gl_app.specs.Words.{request_of_plan};
 
 use crate::answer::Answer;
+use crate::big::answer_big;
 use crate::form::have_form;
 use crate::reading::{ReadAllFault, read_all};
 use crate::requests::{answer_fault, answer_request};
-use crate::words::{Request, read_words};
+use crate::words::{PlanRequest, Request, read_words};
 use gl_outside::Source;
 use gl_syntax::{Bytes, Text};
 use gl_text::into_plan;
@@ -40,18 +41,20 @@ impl From<AllocError> for Stop {
     }
 }
 
-/// What the words and the source come to. The source is read where the words have a form, and to its end unless it
-/// has too many bytes or fails.
+/// What the words and the source come to. The source is read where the words ask for something of its plan, and to its
+/// end unless it has too many bytes or fails.
 pub fn answer_words<N: RunName, S: Source>(
     alloc: Global,
     words: &[Text],
     source: &mut S,
 ) -> Result<Answer, Stop>
     ensures answer { IfOk result (AnswersWords words.now (S.remaining source.old)) }
-    ensures reading { HasRead (S.remaining source.old) (S.remaining source.new)
-        (status_after result) }
+    ensures reading { AskForNoSize words.now
+        → HasRead (S.remaining source.old) (S.remaining source.new) (status_after result) }
     ensures no_form { HaveNoForm words.now
         → IsUsage (status_after result) × (source.new ≡ source.old) }
+    ensures size { (n : ℕ) → Asks words.now (big n)
+        → IsSummary (status_after result) × (source.new ≡ source.old) }
     ensures failed { IsErrOf result Stop.Read → Rose (S.faults source.old) (S.faults source.new) }
     ensures sound { S.never_fails source.old → S.faults source.new ≡ S.faults source.old }
 {
@@ -60,18 +63,19 @@ pub fn answer_words<N: RunName, S: Source>(
     }
     match read_words(alloc, words)? {
         None => Ok(Answer::Usage),
-        Some(request) => answer_source::<N, S>(alloc, &request, source),
+        Some(Request::Big(size)) => Ok(answer_big::<N>(alloc, size)?),
+        Some(Request::OfPlan(request)) => answer_source::<N, S>(alloc, &request, source),
     }
 }
 
 #[tactic(auto, using(crate::proofs::CallOutcomes::read_all_of))]
 fn answer_source<N: RunName, S: Source>(
     alloc: Global,
-    request: &Request,
+    request: &PlanRequest,
     source: &mut S,
 ) -> Result<Answer, Stop>
     ensures answer { IfOk result
-        (AnswersRequest (request_of request.now) (S.remaining source.old)) }
+        (AnswersRequest (request_of_plan request.now) (S.remaining source.old)) }
     ensures reading { HasRead (S.remaining source.old) (S.remaining source.new)
         (status_after result) }
     ensures failed { IsErrOf result Stop.Read → Rose (S.faults source.old) (S.faults source.new) }
@@ -89,10 +93,10 @@ fn answer_source<N: RunName, S: Source>(
 fn answer_bytes<N: RunName>(
     alloc: Global,
     bytes: Bytes,
-    request: &Request,
+    request: &PlanRequest,
 ) -> Result<Answer, AllocError>
     requires { length bytes ≤ most_bytes }
-    ensures answer { IfOk result (AnswersBytes (request_of request.now) bytes) }
+    ensures answer { IfOk result (AnswersBytes (request_of_plan request.now) bytes) }
     ensures status { IfOk result (λ a. IsAfterAll (status_at a)) }
 {
     match into_plan(alloc, bytes) {

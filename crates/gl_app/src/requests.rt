@@ -7,13 +7,13 @@ ghost use Rattle.spec_reports.specs.Step.{too_long as first_too_long};
 ghost use Rattle.spec_reports.specs.Fits.{first_bad_place};
 ghost use Rattle.spec_reports.specs.Answer.{answer_of, replayed, opened, taken};
 ghost use Rattle.gl_app.specs.Answer.{IsOf, AnswersFault};
-ghost use Rattle.gl_app.specs.Words.{request_of};
+ghost use Rattle.gl_app.specs.Words.{request_of_plan};
 
 use crate::answer::Answer;
 use crate::built::is_built;
 use crate::replaying::replay;
 use crate::texts::{cycle_text, fault_text, misfit_text, too_long_text};
-use crate::words::Request;
+use crate::words::PlanRequest;
 use gl_outside::Actor;
 use gl_report::report;
 use gl_syntax::Bytes;
@@ -38,17 +38,17 @@ pub fn answer_fault(alloc: Global, fault: &PlanFault) -> Result<Answer, AllocErr
 pub fn answer_request<N: RunName>(
     alloc: Global,
     plan: &Plan,
-    request: &Request,
+    request: &PlanRequest,
 ) -> Result<Answer, AllocError>
-    ensures { IfOk result (λ a. IsOf a (answer_of (request_of request.now) [] plan.now)) }
+    ensures { IfOk result (λ a. IsOf a (answer_of (request_of_plan request.now) [] plan.now)) }
 {
     match request {
-        Request::Check => {
+        PlanRequest::Check => {
             let mut text = Bytes::new(alloc);
             write_plan(alloc, plan, &mut text)?;
             Ok(Answer::Written(text))
         }
-        Request::Replay(order) => answer_replay::<N>(alloc, plan, order.as_slice()),
+        PlanRequest::Replay(order) => answer_replay::<N>(alloc, plan, order.as_slice()),
     }
 }
 

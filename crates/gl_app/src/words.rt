@@ -1,19 +1,31 @@
 //! The words of a call.
 
 ghost use Rattle.std.specs.Prelude.{◌≡◌, [], ◌∷◌, IfOk, IfSome, IfNone, option_map};
-ghost use Rattle.spec_reports.specs.Words.{Asks, HaveNoForm, replay};
-ghost use Rattle.gl_app.specs.Words.{actor_in, pieces, actors_in, order_in, asked, entries_of, request_of};
+ghost use Rattle.spec_reports.specs.Words.{Asks, HaveNoForm, replay, big};
+ghost use Rattle.gl_app.specs.Words.{actor_in, pieces, actors_in, order_in, size_in, asked, entries_of, request_of};
 
 use gl_outside::Actor;
 use gl_syntax::{Text, cut, decimal_index};
 use std::alloc::{AllocError, Global};
 
+/// The greatest size of a large plan.
+const MOST_SIZE: u32 = 10_000;
+
 /// What the words of a call ask for.
 #[derive(Drop)]
 pub enum Request {
-    /// The one text of a plan.
+    /// Something of the plan that the source holds.
+    OfPlan(PlanRequest),
+    /// The summary of the large plan of this size.
+    Big(u32),
+}
+
+/// What they ask for of a plan.
+#[derive(Drop)]
+pub enum PlanRequest {
+    /// Its one text.
     Check,
-    /// The report of a plan in this order.
+    /// Its report in this order.
     Replay(Vec<Actor>),
 }
 
@@ -31,7 +43,7 @@ fn asked_request(alloc: Global, words: &[Text]) -> Result<Option<Request>, Alloc
 {
     match words {
         [keyword] => Ok(alone(keyword.bytes())),
-        [keyword, order] => after_keyword(alloc, keyword.bytes(), order.bytes()),
+        [keyword, word] => after_keyword(alloc, keyword.bytes(), word.bytes()),
         _ => Ok(None),
     }
 }
@@ -41,20 +53,43 @@ fn alone(keyword: &[u8]) -> Option<Request>
     ensures { option_map request_of result ≡ asked (keyword.now ∷ []) }
 {
     if keyword == b"check".as_slice() {
-        Some(Request::Check)
+        Some(Request::OfPlan(PlanRequest::Check))
     } else {
         None
     }
 }
 
-// The order that the second word spells, where the first asks for a replay.
-fn after_keyword(alloc: Global, keyword: &[u8], order: &[u8]) -> Result<Option<Request>, AllocError>
-    ensures { IfOk result (λ o. option_map request_of o ≡ asked (keyword.now ∷ order.now ∷ [])) }
+// What the second word gives to the first: an order, or a size.
+fn after_keyword(alloc: Global, keyword: &[u8], word: &[u8]) -> Result<Option<Request>, AllocError>
+    ensures { IfOk result (λ o. option_map request_of o ≡ asked (keyword.now ∷ word.now ∷ [])) }
 {
     if keyword == b"replay".as_slice() {
-        read_replay(alloc, order)
+        read_replay(alloc, word)
+    } else if keyword == b"big".as_slice() {
+        Ok(read_big(word))
     } else {
         Ok(None)
+    }
+}
+
+fn read_big(bytes: &[u8]) -> Option<Request>
+    ensures { option_map request_of result ≡ option_map big (size_in bytes.now) }
+{
+    match read_size(bytes) {
+        Some(size) => Some(Request::Big(size)),
+        None => None,
+    }
+}
+
+/// The size that the bytes spell, from 1 to 10,000.
+pub fn read_size(bytes: &[u8]) -> Option<u32>
+    ensures { result ≡ size_in bytes.now }
+{
+    let size = decimal_index(bytes)?;
+    if 1 <= size && size <= MOST_SIZE {
+        Some(size)
+    } else {
+        None
     }
 }
 
@@ -62,7 +97,7 @@ fn read_replay(alloc: Global, bytes: &[u8]) -> Result<Option<Request>, AllocErro
     ensures { IfOk result (λ o. option_map request_of o ≡ option_map replay (order_in bytes.now)) }
 {
     match read_order(alloc, bytes)? {
-        Some(order) => Ok(Some(Request::Replay(order))),
+        Some(order) => Ok(Some(Request::OfPlan(PlanRequest::Replay(order)))),
         None => Ok(None),
     }
 }

@@ -1,7 +1,7 @@
 use Rattle.std.proofs.Common.{◌-◌, length, sym, subst}
 use Rattle.gl_app.specs.Answer.{text_at}
 use Rattle.gl_app.specs.Call.{IsAhead}
-use Rattle.gl_app.proofs.CallOutcomes.{is_answer, quiet_answer, reports_run, writes_plan, usage_without_form, not_ahead, read_by_status, room_for}
+use Rattle.gl_app.proofs.CallOutcomes.{is_answer, quiet_answer, reports_run, writes_plan, writes_summary, summary_status, usage_without_form, not_ahead, read_by_status, room_for}
 use Rattle.gl_app.proofs.call.plain.Goals as goal
 
 pub returns-in-Ok-clause-answer : goal.returns-in-Ok-clause-answer
@@ -28,9 +28,18 @@ pub returns-in-Ok-clause-written : goal.returns-in-Ok-clause-written
 returns-in-Ok-clause-written g c = writes_plan c.args.words.now _ _ _ c.give.result
     (is_answer c.args.words.now _ _ _ c.in-Ok.answer c.give.result c.in-Ok.ensures.answer c.give.ensures.given)
 
+pub returns-in-Ok-clause-summary : goal.returns-in-Ok-clause-summary
+returns-in-Ok-clause-summary g c = writes_summary c.args.words.now _ _ _ c.give.result
+    (is_answer c.args.words.now _ _ _ c.in-Ok.answer c.give.result c.in-Ok.ensures.answer c.give.ensures.given)
+
 pub returns-in-Ok-clause-reading : goal.returns-in-Ok-clause-reading
-returns-in-Ok-clause-reading g c = read_by_status _ _ _ _ c.in-Ok.answer c.give.result c.give.ensures.given
-    c.in-Ok.ensures.reading
+returns-in-Ok-clause-reading g c = λ none. read_by_status _ _ _ _ c.in-Ok.answer c.give.result c.give.ensures.given
+    (c.in-Ok.ensures.reading none)
+
+pub returns-in-Ok-clause-size : goal.returns-in-Ok-clause-size
+returns-in-Ok-clause-size g c = λ n asks.
+    let before = c.in-Ok.ensures.size n asks in
+    (summary_status _ _ c.in-Ok.answer c.give.result c.give.ensures.given before.0, before.1)
 
 pub returns-in-Ok-clause-usage : goal.returns-in-Ok-clause-usage
 returns-in-Ok-clause-usage g c = usage_without_form c.args.words.now _ _ _ c.give.result
