@@ -52,16 +52,14 @@ fn take_sections<N: RunName>(world: &mut World<N>) -> Result<(), AllocError>
         (world.new
         ≡ record {
           plan = world.old.plan;
-          order = replicate (length (sections_of world.old.plan 0)) (Actor.Writer 0) }) }
+          order = replicate (length (sections_of world.old.plan 0)) (Actor.Writer 0);
+        }) }
 {
     take_counted::<N, Brand>(world, Blank::new(1))
 }
 
 // The steps of its comparisons are counted in a ledger of its own, and nothing is said of their number.
-fn take_counted<N: RunName, L: Ledger>(
-    world: &mut World<N>,
-    blank: Blank,
-) -> Result<(), AllocError>
+fn take_counted<N: RunName, L: Ledger>(world: &mut World<N>, blank: Blank) -> Result<(), AllocError>
     requires name { blank.name ≡ L.name }
     requires parts { blank.parts ≡ L.parts }
     requires some { 0 < blank.parts }
@@ -71,7 +69,8 @@ fn take_counted<N: RunName, L: Ledger>(
         (world.new
         ≡ record {
           plan = world.old.plan;
-          order = replicate (length (sections_of world.old.plan 0)) (Actor.Writer 0) }) }
+          order = replicate (length (sections_of world.old.plan 0)) (Actor.Writer 0);
+        }) }
 {
     let mut steps: Steps<L> = Steps::new(blank);
     let count = world.left(0);

@@ -55,15 +55,28 @@ lists_apart :
     IsDistinct bytes_eq
     (codes "s" ∷ codes "f" ∷ codes "o" ∷ codes "u" ∷ codes "g" ∷ codes "n" ∷ codes "c" ∷ [])
 unfolding IsDistinct
-lists_apart =
-    ((refl, (refl, (refl, (refl, (refl, (refl, tt)))))),
-    ((refl, (refl, (refl, (refl, (refl, tt))))),
-    ((refl, (refl, (refl, (refl, tt)))),
-    ((refl, (refl, (refl, tt))),
-    ((refl, (refl, tt)),
-    ((refl, tt),
-    (tt,
-    tt)))))))
+lists_apart = (
+  (refl, (refl, (refl, (refl, (refl, (refl, tt)))))),
+  (
+    (refl, (refl, (refl, (refl, (refl, tt))))),
+    (
+      (refl, (refl, (refl, (refl, tt)))),
+      (
+        (refl, (refl, (refl, tt))),
+        (
+          (refl, (refl, tt)),
+          (
+            (refl, tt),
+            (
+              tt,
+              tt,
+            ),
+          ),
+        ),
+      ),
+    ),
+  ),
+)
 
 listeners_apart : IsDistinct bytes_eq (codes "a" ∷ codes "b" ∷ [])
 unfolding IsDistinct
@@ -103,15 +116,28 @@ inputs_there n =
     let one : (k : ℕ) → k < 7 → All (HasList (big_plan n) None) (k ∷ []) =
     λ k l. All-from_recursion (HasList (big_plan n) None) (k ∷ []) (at k l, tt) in
     let two : All (HasList (big_plan n) None) (2 ∷ 3 ∷ []) =
-    All-from_recursion (HasList (big_plan n) None) (2 ∷ 3 ∷ []) (at 2 (omega arith), (at 3 (omega arith), tt)) in
-    (All-nil (HasList (big_plan n) None),
-    (one 0 (omega arith),
-    (one 1 (omega arith),
-    (one 0 (omega arith),
-    (one 0 (omega arith),
-    (one 4 (omega arith),
-    (two,
-    tt)))))))
+    All-from_recursion (HasList (big_plan n) None) (2 ∷ 3 ∷ []) (at 2 (omega arith), (at 3 (omega arith), tt)) in (
+      All-nil (HasList (big_plan n) None),
+      (
+        one 0 (omega arith),
+        (
+          one 1 (omega arith),
+          (
+            one 0 (omega arith),
+            (
+              one 0 (omega arith),
+              (
+                one 4 (omega arith),
+                (
+                  two,
+                  tt,
+                ),
+              ),
+            ),
+          ),
+        ),
+      ),
+    )
 
 pub big_formed : (n : ℕ) → IsWellFormed (big_plan n)
 big_formed n = record {
@@ -161,11 +187,16 @@ by_first = (omega arith, omega arith, (one_step 0 (omega arith), tt))
 pub big_good : (n : ℕ) → n ≤ 4294967295 → IsGood (big_plan n)
 big_good n few = record {
   limit = (omega arith, omega arith);
-  lists =
-      ((refl, all_counted IsLiteral (λ k. element ((37 * k) % 101) (k % 7)) 0 n n (omega arith) (λ k l. pair_of (37 * k) k)),
-      ((refl, ((one_step 0 (omega arith), fits 50 (omega arith), omega arith), omega arith)),
-      ((refl, (omega arith, omega arith, (one_step 0 (omega arith), (one_step 1 (omega arith), tt)))),
-      ((refl, by_first), ((refl, by_first), ((refl, (omega arith, tt)), ((refl, tt), tt)))))));
+  lists = (
+    (refl, all_counted IsLiteral (λ k. element ((37 * k) % 101) (k % 7)) 0 n n (omega arith) (λ k l. pair_of (37 * k) k)),
+    (
+      (refl, ((one_step 0 (omega arith), fits 50 (omega arith), omega arith), omega arith)),
+      (
+        (refl, (omega arith, omega arith, (one_step 0 (omega arith), (one_step 1 (omega arith), tt)))),
+        ((refl, by_first), ((refl, by_first), ((refl, (omega arith, tt)), ((refl, tt), tt)))),
+      ),
+    ),
+  );
   listeners = (refl, (refl, tt));
   commands = (
     all_counted (AllByRecursion IsGoodCommand) (big_section n) 0 n n (omega arith) (λ j l. section_good n j few l),

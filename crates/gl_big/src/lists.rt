@@ -113,12 +113,7 @@ pub(crate) fn add_listeners(alloc: Global, lines: &mut LinesSoFar) -> Result<(),
     add_listener(alloc, b'b', b'n', lines)
 }
 
-fn add_listener(
-    alloc: Global,
-    own: u8,
-    heard: u8,
-    lines: &mut LinesSoFar,
-) -> Result<(), Memory>
+fn add_listener(alloc: Global, own: u8, heard: u8, lines: &mut LinesSoFar) -> Result<(), Memory>
     requires own { IsTrue (is_lower own) }
     requires heard { IsTrue (is_lower heard) }
     ensures { OnOk result (lines.new ≡ lines.old

@@ -28,12 +28,7 @@ pub fn write_counts<N: RunName>(world: &World<N>, out: &mut Bytes) -> Result<(),
 }
 
 // The line of a listener, which has this name.
-fn write_count(
-    listener: u32,
-    name: &[u8],
-    told: &[Telling],
-    out: &mut Bytes,
-) -> Result<(), Memory>
+fn write_count(listener: u32, name: &[u8], told: &[Telling], out: &mut Bytes) -> Result<(), Memory>
     ensures { OnOk result (out.new ≡ out.old ++ count_line listener name.now (tellings_of told.now)) }
 {
     out.push_all(b"told ")?;

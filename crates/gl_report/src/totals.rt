@@ -52,11 +52,7 @@ fn opening_len<N: RunName>(alloc: Global, world: &World<N>) -> Result<usize, Mem
 }
 
 // The opening length of the first list, which is of this kind.
-fn first_len<N: RunName>(
-    alloc: Global,
-    world: &World<N>,
-    kind: &ListKind,
-) -> Result<usize, Memory>
+fn first_len<N: RunName>(alloc: Global, world: &World<N>, kind: &ListKind) -> Result<usize, Memory>
     requires { first_kind world.now.plan ≡ Some kind.now }
     ensures { IfOk result (λ len. len ≡ length (shows_in (table_of (opening world.now.plan)) 0)) }
 {

@@ -82,7 +82,7 @@ one_word w = elim (same_or_not w (codes "check")) as (λ _. Asked (w ∷ [])) [
   | inr ne ↦ inr (no_form (w ∷ []) (λ e. ne (head w (codes "check") e))
       (λ p h. one_or_two w (codes "replay") (spelled_order p) h.are)
       (λ n h. one_or_two w (codes "big") (decimal n) h.are)
-    )
+      )
 ]
   where
     head : (u v : List ℕ) → u ∷ [] ≡ v ∷ [] → u ≡ v
@@ -99,7 +99,7 @@ replayed_word w b e = elim (order_or_none b) as (λ _. Asked (w ∷ b ∷ [])) [
   | inr none ↦ inr (no_form (w ∷ b ∷ []) (λ f. one_or_two (codes "check") w b (sym f))
       (λ p h. none p (second_of_two w b (codes "replay") (spelled_order p) h.are, h.actors))
       (λ n h. other_words w (codes "big") e refl (first_of_two w b (codes "big") (decimal n) h.are))
-    )
+      )
 ]
 
 -- bytes spell a size up to some size
@@ -118,9 +118,9 @@ size_or_none b zero = inr (λ s. absurd (omega (arith, s.1, s.2)))
 size_or_none b (suc most) = elim (same_or_not b (decimal (suc most))) as (λ _. Sized b (suc most) ⊎ (¬ Sized b (suc most))) [
   | inl e ↦ inl (suc most, omega arith, omega arith, e)
   | inr ne ↦ elim (size_or_none b most) as (λ _. Sized b (suc most) ⊎ (¬ Sized b (suc most))) [
-      | inl s ↦ inl (s.0, s.1, omega (arith, s.2), s.3)
-      | inr none ↦ inr (none_up_to b most none ne)
-    ]
+    | inl s ↦ inl (s.0, s.1, omega (arith, s.2), s.3)
+    | inr none ↦ inr (none_up_to b most none ne)
+  ]
 ]
 
 sized_word : (w b : List ℕ) → w ≡ codes "big" → Asked (w ∷ b ∷ [])
@@ -130,21 +130,21 @@ sized_word w b e = elim (size_or_none b 10000) as (λ _. Asked (w ∷ b ∷ []))
       inl (big s.0, (tt, record { are = are; least = s.1; most = s.2 }))
   | inr none ↦ inr (no_form (w ∷ b ∷ []) (λ f. one_or_two (codes "check") w b (sym f))
       (λ p h. other_words (codes "replay") w refl e
-        (sym (first_of_two w b (codes "replay") (spelled_order p) h.are)))
+      (sym (first_of_two w b (codes "replay") (spelled_order p) h.are)))
       (λ n h. none (n, h.least, h.most, second_of_two w b (codes "big") (decimal n) h.are))
-    )
+      )
 ]
 
 two_words : (w b : List ℕ) → Asked (w ∷ b ∷ [])
 two_words w b = elim (same_or_not w (codes "replay")) as (λ _. Asked (w ∷ b ∷ [])) [
   | inl e ↦ replayed_word w b e
   | inr ne ↦ elim (same_or_not w (codes "big")) as (λ _. Asked (w ∷ b ∷ [])) [
-      | inl e ↦ sized_word w b e
-      | inr other ↦ inr (no_form (w ∷ b ∷ []) (λ f. one_or_two (codes "check") w b (sym f))
-          (λ p h. ne (first_of_two w b (codes "replay") (spelled_order p) h.are))
-          (λ n h. other (first_of_two w b (codes "big") (decimal n) h.are))
+    | inl e ↦ sized_word w b e
+    | inr other ↦ inr (no_form (w ∷ b ∷ []) (λ f. one_or_two (codes "check") w b (sym f))
+        (λ p h. ne (first_of_two w b (codes "replay") (spelled_order p) h.are))
+        (λ n h. other (first_of_two w b (codes "big") (decimal n) h.are))
         )
-    ]
+  ]
 ]
 
 more_words : (w b c : List ℕ) (words : List (List ℕ)) → Asked (w ∷ b ∷ c ∷ words)
