@@ -5,13 +5,12 @@ use Rattle.std.specs.Option.{option_or}
 use Rattle.std.specs.List.{Contains}
 use Rattle.std.proofs.lemmas.List.{length-map}
 use Rattle.std.proofs.lemmas.Option.{slice_get_within}
-use Rattle.spec_states.specs.Command.{Command}
 use Rattle.gl_source.specs.Model.{DeltaModel}
 use Rattle.spec_states.specs.State.{State, own_at, dependency_order}
 use Rattle.spec_states.specs.Laws.{IsSound}
 use Rattle.spec_states.specs.Shown.{shown, table_of}
-use Rattle.spec_states.specs.Wave.{command, wave}
-use Rattle.spec_states.specs.Step.{refusal, too_long, unmoved}
+use Rattle.spec_states.specs.Wave.{wave, Cause, subject}
+use Rattle.spec_states.specs.Step.{too_long}
 use Rattle.spec_states.proofs.DependencyOrder.{ordered as order_of}
 use Rattle.spec_states.proofs.Views.{wave_order}
 use Rattle.gl_graph.specs.declared.node.Node.{Node}
@@ -30,14 +29,13 @@ use Rattle.gl_graph.proofs.Starts.{same_state}
 use Rattle.gl_graph.proofs.Dispatch.{take_all}
 use Rattle.gl_graph.proofs.Next.{long_wave}
 use Rattle.gl_graph.specs.declared.rollback.Rollback.{Rollback}
-use Rattle.spec_states.specs.Plan.{origin as about}
-use Rattle.gl_graph.specs.Commands.{Suits}
 use Rattle.gl_graph.specs.Rollbacks.{IsRollback, start_at}
 use Rattle.gl_graph.proofs.WholeWaves.{graph_sound}
 use Rattle.gl_graph.proofs.Rollbacks.{start_within}
-use Rattle.gl_graph.proofs.Refusals.{prefix_few, unmoved_by}
+use Rattle.gl_graph.proofs.Refusals.{prefix_few}
 use Rattle.spec_states.proofs.Lists.{replicate_at}
 use Rattle.spec_states.proofs.Longer.{none_longer, few_shown}
+use Rattle.gl_graph.specs.Causes.{SuitsCause, refusal_of, unmoved_of}
 
 pub shown_few : (limit : ℕ) (old : List Node) (positions : List ℕ) → IsGraph limit old positions → (list : ℕ) → list < length positions → length (shown (state_of old positions) list) ≤ limit
 shown_few limit old positions g list within =
@@ -51,14 +49,14 @@ start_low limit old positions list g within =
     omega (arith, low, length-map old (λ (n : Node). n.list))
 
 -- a command for a graph that is seen by slices has begun
-pub begun_of : (limit : ℕ) (old : List Node) (positions : List ℕ) (c : Command) (rollback : Option Rollback) (seen : List Node) (places : List ℕ) → IsGraph limit old positions
-    → about c < length (state_of old positions) → Suits c (own_at (state_of old positions) (about c)) → seen ≡ old → places ≡ positions
-    → IsRollback (state_of seen places) c rollback → IsBegun limit old positions c rollback
-begun_of limit old positions c rollback seen places graph within suits same placed is = record {
+pub begun_of : (limit : ℕ) (old : List Node) (positions : List ℕ) (cause : Cause) (rollback : Option Rollback) (seen : List Node) (places : List ℕ) → IsGraph limit old positions
+    → subject cause < length (state_of old positions) → SuitsCause cause (own_at (state_of old positions) (subject cause)) → seen ≡ old → places ≡ positions
+    → IsRollback (state_of seen places) cause rollback → IsBegun limit old positions cause rollback
+begun_of limit old positions cause rollback seen places graph within suits same placed is = record {
   graph = graph;
   within = within;
   suits = suits;
-  is_rollback = subst (λ ns. IsRollback (state_of ns positions) c rollback) same (subst (λ ps. IsRollback (state_of seen ps) c rollback) placed is);
+  is_rollback = subst (λ ns. IsRollback (state_of ns positions) cause rollback) same (subst (λ ps. IsRollback (state_of seen ps) cause rollback) placed is);
 }
 
 -- there are few nodes
@@ -90,9 +88,9 @@ same_room n nodes p a b at_a at_b =
     subst (λ (m : Node). IsNoMore (room_of a.keeps) (room_one (undo_at (replicate n None) p) m.keeps)) one
     (subst (λ u. IsNoMore (room_of a.keeps) (room_one u a.keeps)) (sym (no_undo n p)) (no_more (room_of a.keeps)))
 
-pub spread_begins : (limit : ℕ) (old : List Node) (positions : List ℕ) (c : Command) (rollback : Option Rollback) (told : List (Option DeltaModel)) (made : Made) → IsBegun limit old positions c rollback
-    → told ≡ replicate (length positions) None → made ≡ [] → IsSpread limit old positions c rollback 0 old told made
-spread_begins limit old positions c rollback told made begun told_is made_is = record {
+pub spread_begins : (limit : ℕ) (old : List Node) (positions : List ℕ) (cause : Cause) (rollback : Option Rollback) (told : List (Option DeltaModel)) (made : Made) → IsBegun limit old positions cause rollback
+    → told ≡ replicate (length positions) None → made ≡ [] → IsSpread limit old positions cause rollback 0 old told made
+spread_begins limit old positions cause rollback told made begun told_is made_is = record {
   begun = begun;
   inverted = record {
     numbers_are = refl;
@@ -123,8 +121,8 @@ spread_begins limit old positions c rollback told made begun told_is made_is = r
   waiting = λ p high within. ap (λ ms. slice_get (by_position (length old) ms) p) made_is ∙ all_get None (length old) p within;
 }
   where
-    not_yet : HasBegun positions rollback c 0 → ⊥
-    not_yet h = let low : slice_index positions (start_at rollback c) < 0 = h in omega (arith, low)
+    not_yet : HasBegun positions rollback cause 0 → ⊥
+    not_yet h = let low : slice_index positions (start_at rollback cause) < 0 = h in omega (arith, low)
 
     none : (list : ℕ) → slice_index_or told list None ≡ None
     none list = ap (λ ts. slice_index_or ts list None) told_is ∙ replicate_at None (length positions) list
@@ -133,10 +131,10 @@ spread_begins limit old positions c rollback told made begun told_is made_is = r
     nothing p n e = absurd cc
 
 -- the command came to the last place
-pub record IsDone (limit : ℕ) (old : List Node) (positions : List ℕ) (c : Command) (nodes : List Node) (told : List (Option DeltaModel)) (made : Made) : Type 0 where
-  pub moves : unmoved limit (state_of old positions) c ≡ None
-  pub state : state_of nodes positions ≡ wave (state_of old positions) (command c)
-  pub told_is : AreTold (state_of old positions) c told
+pub record IsDone (limit : ℕ) (old : List Node) (positions : List ℕ) (cause : Cause) (nodes : List Node) (told : List (Option DeltaModel)) (made : Made) : Type 0 where
+  pub moves : unmoved_of limit (state_of old positions) cause ≡ None
+  pub state : state_of nodes positions ≡ wave (state_of old positions) cause
+  pub told_is : AreTold (state_of old positions) cause told
   pub graph : IsGraph limit nodes positions
   pub back : HaveBack old nodes made
 
@@ -146,10 +144,10 @@ take_nodes [] (suc n) e = refl
 take_nodes (m ∷ nodes) zero e = absurd (omega (arith, e))
 take_nodes (m ∷ nodes) (suc n) e = ap (λ xs. m ∷ xs) (take_nodes nodes n (omega (arith, e)))
 
-pub spread_ends : (limit : ℕ) (old : List Node) (positions : List ℕ) (c : Command) (rollback : Option Rollback) (nodes : List Node) (told : List (Option DeltaModel)) (made : Made)
-    → IsSpread limit old positions c rollback (length old) nodes told made → IsDone limit old positions c nodes told made
-spread_ends limit old positions c rollback nodes told made h = record {
-  moves = unmoved_by limit old positions c rollback h.begun ∙ (ap (λ r. option_or r (too_long limit w)) inside ∙ few);
+pub spread_ends : (limit : ℕ) (old : List Node) (positions : List ℕ) (cause : Cause) (rollback : Option Rollback) (nodes : List Node) (told : List (Option DeltaModel)) (made : Made)
+    → IsSpread limit old positions cause rollback (length old) nodes told made → IsDone limit old positions cause nodes told made
+spread_ends limit old positions cause rollback nodes told made h = record {
+  moves = ap (λ r. option_or r (too_long limit w)) inside ∙ few;
   state = state;
   told_is = record {
     long = h.told_to.long ∙ sym (long_state old positions);
@@ -159,8 +157,8 @@ spread_ends limit old positions c rollback nodes told made h = record {
     few_lists = g.few_lists;
     few = g.few;
     placed = placed;
-    sound = subst IsSound (sym state) (graph_sound limit old positions c g h.begun.suits inside);
-    order = ap dependency_order state ∙ (wave_order s (command c) ∙ (g.order ∙ sym t.numbers_are));
+    sound = subst IsSound (sym state) (graph_sound limit old positions cause g h.begun.suits inside);
+    order = ap dependency_order state ∙ (wave_order s cause ∙ (g.order ∙ sym t.numbers_are));
     settled = subst (λ xs. AreSettled xs positions) (take_nodes nodes (length old) long_nodes) t.settled;
     limited = t.limited;
     within = ap (too_long limit) state ∙ few;
@@ -172,12 +170,12 @@ spread_ends limit old positions c rollback nodes told made h = record {
     s = state_of old positions
 
     w : State
-    w = wave s (command c)
+    w = wave s cause
 
     g : IsGraph limit old positions
     g = h.begun.graph
 
-    t : AreInverse limit old positions c rollback (length old) nodes
+    t : AreInverse limit old positions cause rollback (length old) nodes
     t = h.inverted
 
     long_numbers : (ns : List Node) → length (numbers ns) ≡ length ns
@@ -194,18 +192,18 @@ spread_ends limit old positions c rollback nodes told made h = record {
     placed : (list : ℕ) → list < length positions → IsPlaced nodes positions list
     placed list within = record { within = within; there = subst (λ xs. slice_get xs (slice_index positions list) ≡ Some list) (sym t.numbers_are) (g.placed list within).there }
 
-    inside : refusal s c ≡ None
-    inside = t.inside (position_low (start_at rollback c) (start_within limit old positions c rollback h.begun))
+    inside : refusal_of s cause ≡ None
+    inside = t.inside (position_low (start_at rollback cause) (start_within limit old positions cause rollback h.begun))
 
     few : too_long limit w ≡ None
-    few = few_shown limit (table_of w) (dependency_order w) (λ y among. prefix_few limit old positions c rollback (length old) nodes h.begun t y
-        (subst (λ xs. Contains xs y) (sym (ap (λ n. take n (numbers old)) (sym (long_numbers old)) ∙ take_all (numbers old))) (subst (λ xs. Contains xs y) (wave_order s (command c) ∙ g.order) among)))
+    few = few_shown limit (table_of w) (dependency_order w) (λ y among. prefix_few limit old positions cause rollback (length old) nodes h.begun t y
+        (subst (λ xs. Contains xs y) (sym (ap (λ n. take n (numbers old)) (sym (long_numbers old)) ∙ take_all (numbers old))) (subst (λ xs. Contains xs y) (wave_order s cause ∙ g.order) among)))
 
     same : (list : ℕ) → list < length w → own_at (state_of nodes positions) list ≡ own_at w list
     same list within =
-        let low : list < length positions = omega (arith, within, long_wave old positions c) in
+        let low : list < length positions = omega (arith, within, long_wave old positions cause) in
         let n = node_of nodes (slice_index positions list) list (placed list low).there in
         own_at_state nodes positions list low ∙ (ap own_of_node n.is ∙ (t.own (slice_index positions list) n.node (position_low list low) n.is ∙ ap (own_at w) n.same))
 
     state : state_of nodes positions ≡ w
-    state = same_state (state_of nodes positions) w (long_state nodes positions ∙ sym (long_wave old positions c)) same
+    state = same_state (state_of nodes positions) w (long_state nodes positions ∙ sym (long_wave old positions cause)) same

@@ -12,7 +12,7 @@ use Rattle.spec_states.specs.Command.{Command}
 use Rattle.spec_states.specs.Command.TheVariants as c
 use Rattle.spec_states.specs.State.{Own, source, over, composite, transaction, freezable, proxy}
 use Rattle.spec_states.specs.Shown.{is_held, shown_of, undone_all}
-use Rattle.spec_states.specs.Wave.{kept_after, kept_later, levels_after, since_after, follow}
+use Rattle.spec_states.specs.Wave.{Cause, command as made_by, pump, kept_after, kept_by, kept_later, levels_after, since_after, follow}
 use Rattle.spec_states.specs.Laws.{LedTo}
 use Rattle.gl_source.specs.Model.{DeltaModel}
 use Rattle.gl_held.specs.Levels.{BeginsWith, followed, held_len}
@@ -30,6 +30,7 @@ use Rattle.gl_graph.specs.declared.graph.Refused.TheVariants.{OutOfRange, TooLon
 use Rattle.gl_graph.specs.Held.{own_of_held, deltas_of, StandsFor, contents, own_by, room_of, IsUndo, taken, HasTaken, composed_with}
 use Rattle.gl_graph.specs.Nodes.{own_of}
 use Rattle.gl_graph.specs.Commands.{IsNoRollback}
+use Rattle.gl_graph.specs.Causes.{IsPlain}
 use Rattle.gl_graph.specs.Room.{IsNoMore}
 use Rattle.gl_graph.specs.Undos as keeps
 use Rattle.gl_graph.specs.Spread.{delta_of, delta_told, shown_before, IsReached, HasTurned, IsOwnStep, turned_by, IsRefusalOf, IsOwnStopped, one_less, HasDropped, CanRoll, HasKept, IsOtherStep}
@@ -102,7 +103,7 @@ taken_turn command shows input len old new told undo e h = record {
 }
 
 pub taken_step : (command : Command) (shows : ℕ → List Tree) (list input len : ℕ) (old new : Held) (told : Option DeltaModel) (undo : HeldUndo) → len ≡ length (shows input)
-    → HasTaken command len old new (told, undo) → IsOwnStep shows command list (k.Held input old) (k.Held input new) (turned_by told undo)
+    → HasTaken command len old new (told, undo) → IsOwnStep shows (made_by command) list (k.Held input old) (k.Held input new) (turned_by told undo)
 taken_step command shows list input len old new None undo e h = record {
   inside = h.inside input;
   elsewhere = λ here. absurd (not_some list (sym (h.told list input) ∙ here));
@@ -118,8 +119,8 @@ taken_step command shows list input len old new (Some d) undo e h = record {
 }
 
 -- or refuses it
-pub own_stopped : (limit : ℕ) (shows : ℕ → List Tree) (command : Command) (list : ℕ) (own : Own) (why : Refused) → IsRefusalOf own command why
-    → IsOwnStopped limit shows command list own why
+pub own_stopped : (limit : ℕ) (shows : ℕ → List Tree) (command : Command) (list : ℕ) (own : Own) (why : Refused) → IsRefusalOf own (made_by command) why
+    → IsOwnStopped limit shows (made_by command) list own why
 own_stopped limit shows command list own (OutOfRange index len) h = h
 own_stopped limit shows command list own (TooLong number len) h = absurd h
 own_stopped limit shows command list own AlreadyFrozen h = h
@@ -137,16 +138,20 @@ kept_less (c.Rollback list) (freezable input since) shows h = refl
 kept_less (c.Rollback list) (proxy input kept queue) shows h = refl
 kept_less other own shows h = absurd (h tt)
 
-pub dropped_step : (command : Command) (shows : ℕ → List Tree) (list : ℕ) (old new : Keeps) (turned : Turned) → CanRoll command list old → HasDropped old new turned
-    → IsOwnStep shows command list old new turned
-dropped_step command shows list old new Stays can h = absurd h
-dropped_step command shows list old new (Told d undo) can h = absurd h
-dropped_step command shows list old new (Silent undo) can h = record {
+less_by : (cause : Cause) (own : Own) (shows : ℕ → List Tree) → ¬ IsPlain cause → one_less own ≡ kept_by cause shows own
+less_by (made_by command) own shows h = kept_less command own shows h
+less_by (pump list) own shows h = absurd (h tt)
+
+pub dropped_step : (cause : Cause) (shows : ℕ → List Tree) (list : ℕ) (old new : Keeps) (turned : Turned) → CanRoll cause list old → HasDropped old new turned
+    → IsOwnStep shows cause list old new turned
+dropped_step cause shows list old new Stays can h = absurd h
+dropped_step cause shows list old new (Told d undo) can h = absurd h
+dropped_step cause shows list old new (Silent undo) can h = record {
   inside = can.inside;
   elsewhere = can.elsewhere;
   turned = record {
     stands = (h shows).stands;
-    own_is = (h shows).own_is ∙ kept_less command (own_of old) shows can.rollback;
+    own_is = (h shows).own_is ∙ less_by cause (own_of old) shows can.rollback;
     limit = (h shows).limit;
     is_undo = (h shows).is_undo;
   };
@@ -209,3 +214,5 @@ kept_step shows deltas list input old new d (Told out (u.Source undo)) told h = 
 kept_step shows deltas list input old new d (Told out (u.Over undo)) told h = absurd h
 kept_step shows deltas list input old new d (Told out (u.Composite undo)) told h = absurd h
 kept_step shows deltas list input old new d (Told out (u.Held undo)) told h = absurd h
+kept_step shows deltas list input old new d (Silent (u.Pumped undo)) told h = absurd h
+kept_step shows deltas list input old new d (Told out (u.Pumped undo)) told h = absurd h

@@ -15,16 +15,17 @@ use Rattle.spec_states.specs.Command.{Command}
 use Rattle.spec_states.specs.Command.TheVariants as c
 use Rattle.spec_states.specs.State.{Own, source, over, composite, transaction, freezable, proxy, inputs, own_at}
 use Rattle.spec_states.specs.Shown.{is_held}
-use Rattle.spec_states.specs.Wave.{follow, first_delta, parameter_of, parameter_change, kept_after, kept_later, levels_after, since_after}
+use Rattle.spec_states.specs.Wave.{Cause, command, pump, kept_by, begun_with, follow, first_delta, parameter_of, parameter_change, kept_after, kept_later, levels_after, since_after}
 use Rattle.spec_states.specs.Laws.{LedTo, since_frozen}
 use Rattle.spec_states.proofs.Kept.{FitsOver}
 use Rattle.spec_states.proofs.Views.{Inward, IsInward, own_past}
 use Rattle.gl_graph.specs.declared.keeps.Keeps.{Keeps}
-use Rattle.gl_graph.specs.declared.keeps.Keeps.TheVariants.{Source, Over, Composite, Held}
+use Rattle.gl_graph.specs.declared.keeps.Keeps.TheVariants.{Source, Over, Composite, Held, Proxy}
 use Rattle.gl_graph.specs.declared.held.Held.TheVariants as h
 use Rattle.gl_graph.specs.declared.node.Node.{Node}
 use Rattle.gl_composite.specs.Kept.{Kept}
 use Rattle.gl_graph.specs.Commands.{IsOfLevels, IsOfFreezing, Suits}
+use Rattle.gl_graph.specs.Causes.{SuitsCause}
 use Rattle.gl_graph.specs.Derived.{view_of_derived}
 use Rattle.gl_graph.specs.Derived as derived
 use Rattle.gl_graph.specs.Nodes.{own_of, own_of_node, own_in, state_of, OnInput, AreAmong, AreInTurn, StandsFor, KernelStandsFor}
@@ -37,6 +38,7 @@ inward (Over input d) among = tt
 inward (Composite needed k) among = among
 inward (Held input (h.Transaction t)) among = tt
 inward (Held input (h.Freezable since)) among = tt
+inward (Proxy input p) among = tt
 
 -- and back
 pub among_inward : (keeps : Keeps) → Inward (own_of keeps) → AreAmong keeps
@@ -44,6 +46,7 @@ among_inward (Source k) h = tt
 among_inward (Over input d) h = tt
 among_inward (Composite needed k) h = h
 among_inward (Held input held) h = tt
+among_inward (Proxy input p) h = tt
 
 node_inward : (node : Option Node) → ((n : Node) → node ≡ Some n → AreAmong n.keeps) → Inward (own_of_node node)
 node_inward None among = tt
@@ -83,6 +86,7 @@ each_input P (Over input d) i h c = only P input i h c
 each_input P (Composite needed k) i h c = All-contains P needed i h c
 each_input P (Held input (h.Transaction t)) i said c = only P input i said c
 each_input P (Held input (h.Freezable since)) i said c = only P input i said c
+each_input P (Proxy input p) i said c = only P input i said c
 
 pub on_inputs : (P : ℕ → Type 0) (keeps : Keeps) → ((i : ℕ) → Contains (inputs (own_of keeps)) i → P i) → OnInput P keeps
 on_inputs P (Source k) f = tt
@@ -90,6 +94,7 @@ on_inputs P (Over input d) f = f input (Contains-here input [] input refl)
 on_inputs P (Composite needed k) f = all_of P needed f
 on_inputs P (Held input (h.Transaction t)) f = f input (Contains-here input [] input refl)
 on_inputs P (Held input (h.Freezable since)) f = f input (Contains-here input [] input refl)
+on_inputs P (Proxy input p) f = f input (Contains-here input [] input refl)
 
 -- ---- what goes by the inputs of a list
 
@@ -107,6 +112,7 @@ follow_local (Composite needed k) f g d e among same told =
     ap normal (flat_map_local k.lists d e (λ i c. told i (member_input needed k i among c)))
 follow_local (Held input (h.Transaction t)) f g d e among same told = told input (Contains-here input [] input refl)
 follow_local (Held input (h.Freezable since)) f g d e among same told = told input (Contains-here input [] input refl)
+follow_local (Proxy input p) f g d e among same told = refl
 
 -- the delta with which a wave begins
 level_local : (of : Command) (input : ℕ) (levels : List Delta) (f g : ℕ → List Tree) → IsOfLevels of → f input ≡ g input
@@ -127,13 +133,24 @@ since_local (c.Thaw list) input None f g suits same = ap (λ xs. no_change (leng
 since_local (c.Thaw list) input (Some since) f g suits same = refl
 since_local other input since f g suits same = absurd suits
 
-pub first_local : (of : Command) (keeps : Keeps) (f g : ℕ → List Tree) → AreAmong keeps → Suits of (own_of keeps)
+first_local : (of : Command) (keeps : Keeps) (f g : ℕ → List Tree) → AreAmong keeps → Suits of (own_of keeps)
     → ((i : ℕ) → Contains (inputs (own_of keeps)) i → f i ≡ g i) → first_delta of (own_of keeps) f ≡ first_delta of (own_of keeps) g
 first_local of (Source k) f g among suits same = refl
 first_local of (Over input o) f g among suits same = ap (parameter_change (parameter_of of) (view_of_derived o)) (same input (Contains-here input [] input refl))
 first_local of (Composite needed k) f g among suits same = members_local of needed k.lists f g among suits same
 first_local of (Held input (h.Transaction t)) f g among suits same = level_local of input t.levels f g suits (same input (Contains-here input [] input refl))
 first_local of (Held input (h.Freezable since)) f g among suits same = since_local of input since f g suits (same input (Contains-here input [] input refl))
+first_local of (Proxy input p) f g among suits same = absurd suits
+
+pub begun_local : (cause : Cause) (keeps : Keeps) (f g : ℕ → List Tree) → AreAmong keeps → SuitsCause cause (own_of keeps)
+    → ((i : ℕ) → Contains (inputs (own_of keeps)) i → f i ≡ g i) → begun_with cause (own_of keeps) f ≡ begun_with cause (own_of keeps) g
+begun_local (command of) keeps f g among suits same = first_local of keeps f g among suits same
+begun_local (pump list) (Proxy input p) f g among suits same = refl
+begun_local (pump list) (Source k) f g among suits same = absurd suits
+begun_local (pump list) (Over input d) f g among suits same = absurd suits
+begun_local (pump list) (Composite needed k) f g among suits same = absurd suits
+begun_local (pump list) (Held input (h.Transaction t)) f g among suits same = absurd suits
+begun_local (pump list) (Held input (h.Freezable since)) f g among suits same = absurd suits
 
 pub stands_local : (keeps : Keeps) (f g : ℕ → List Tree) → AreAmong keeps → ((i : ℕ) → Contains (inputs (own_of keeps)) i → f i ≡ g i) → StandsFor keeps f → StandsFor keeps g
 stands_local (Source k) f g among same h = tt
@@ -142,6 +159,7 @@ stands_local (Composite needed k) f g among same h =
     h ∙ lens_local k.lists f g (λ i c. same i (member_input needed k i among c))
 stands_local (Held input (h.Transaction t)) f g among same led = subst (LedTo t.levels) (same input (Contains-here input [] input refl)) led
 stands_local (Held input (h.Freezable since)) f g among same led = subst (LedTo (since_frozen since)) (same input (Contains-here input [] input refl)) led
+stands_local (Proxy input p) f g among same h = tt
 
 -- what a held list stands for is that its state fits
 pub stands_whole : (keeps : Keeps) (shows : ℕ → List Tree) → KernelStandsFor keeps shows → FitsOver shows (own_of keeps) → StandsFor keeps shows
@@ -150,6 +168,7 @@ stands_whole (Over input d) shows stands fits = stands
 stands_whole (Composite needed k) shows stands fits = stands
 stands_whole (Held input (h.Transaction t)) shows stands fits = fits
 stands_whole (Held input (h.Freezable since)) shows stands fits = fits
+stands_whole (Proxy input p) shows stands fits = tt
 
 pub fits_local : (own : Own) (f g : ℕ → List Tree) → ((i : ℕ) → Contains (inputs own) i → f i ≡ g i) → FitsOver f own → FitsOver g own
 fits_local (source contents) f g same fits = tt
@@ -159,16 +178,20 @@ fits_local (transaction input levels) f g same fits = subst (LedTo levels) (same
 fits_local (freezable input since) f g same fits = subst (LedTo (since_frozen since)) (same input (Contains-here input [] input refl)) fits
 fits_local (proxy input kept queue) f g same fits = fits
 
--- what a list keeps after a command that is about it
-pub kept_local : (of : Command) (own : Own) (f g : ℕ → List Tree) → ((i : ℕ) → Contains (inputs own) i → f i ≡ g i) → kept_after of f own ≡ kept_after of g own
-kept_local of (source contents) f g same = refl
-kept_local of (over input view) f g same = refl
-kept_local of (composite needed members) f g same = refl
-kept_local of (transaction input levels) f g same =
+-- what a list keeps after a cause that is about it
+command_local : (of : Command) (own : Own) (f g : ℕ → List Tree) → ((i : ℕ) → Contains (inputs own) i → f i ≡ g i) → kept_after of f own ≡ kept_after of g own
+command_local of (source contents) f g same = refl
+command_local of (over input view) f g same = refl
+command_local of (composite needed members) f g same = refl
+command_local of (transaction input levels) f g same =
     ap (λ (xs : List Tree). transaction input (levels_after of (length xs) levels)) (same input (Contains-here input [] input refl))
-kept_local of (freezable input since) f g same =
+command_local of (freezable input since) f g same =
     ap (λ (xs : List Tree). freezable input (since_after of (length xs) since)) (same input (Contains-here input [] input refl))
-kept_local of (proxy input kept queue) f g same = refl
+command_local of (proxy input kept queue) f g same = refl
+
+pub kept_local : (cause : Cause) (own : Own) (f g : ℕ → List Tree) → ((i : ℕ) → Contains (inputs own) i → f i ≡ g i) → kept_by cause f own ≡ kept_by cause g own
+kept_local (command of) own f g same = command_local of own f g same
+kept_local (pump list) own f g same = refl
 
 -- and after a wave that isn't about it, where it is held
 pub later_local : (list : ℕ) (own : Own) (d e : ℕ → Delta) → is_held own ≡ true → ((i : ℕ) → Contains (inputs own) i → d i ≡ e i)

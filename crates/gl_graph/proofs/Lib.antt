@@ -32,3 +32,5 @@ pub mod Ends
 pub mod Steps
 pub mod Splits
 pub mod Standing
+pub mod QueueChanges
+pub mod Pumping

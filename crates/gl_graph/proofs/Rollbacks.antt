@@ -16,7 +16,7 @@ use Rattle.spec_states.specs.Command.TheVariants as c
 use Rattle.spec_states.specs.Plan.{origin as about}
 use Rattle.spec_states.specs.State.{Own, State, source, over, composite, transaction, freezable, proxy, inputs, own_at}
 use Rattle.spec_states.specs.Shown.{is_held, shown_of, shown}
-use Rattle.spec_states.specs.Wave.{command, beginning, first_delta, is_at, kept_later, wave}
+use Rattle.spec_states.specs.Wave.{Cause, command, pump, subject, begins, beginning, first_delta, is_at, kept_later, wave}
 use Rattle.spec_states.specs.Step.{refused_by, too_long}
 use Rattle.spec_states.specs.Laws.{IsSource}
 use Rattle.spec_states.proofs.Waves.{RollsBack, elsewhere, IsTakenBack, taken_back}
@@ -24,16 +24,17 @@ use Rattle.spec_states.proofs.DependencyOrder.{input_within}
 use Rattle.gl_held.specs.Levels.{taken_back as inverse_of}
 use Rattle.gl_graph.specs.declared.node.Node.{Node}
 use Rattle.gl_graph.specs.declared.keeps.Keeps.{Keeps}
-use Rattle.gl_graph.specs.declared.keeps.Keeps.TheVariants.{Source, Over, Composite, Held}
+use Rattle.gl_graph.specs.declared.keeps.Keeps.TheVariants.{Source, Over, Composite, Held, Proxy}
 use Rattle.gl_graph.specs.declared.held.Held.TheVariants as h
 use Rattle.gl_graph.specs.declared.rollback.Rollback.{Rollback}
 use Rattle.gl_graph.specs.declared.graph.Refused.{Refused}
 use Rattle.gl_graph.specs.declared.graph.Refused.TheVariants.{OutOfRange, TooLong, AlreadyFrozen, NotFrozen, NotOpen, Memory}
 use Rattle.gl_graph.specs.Nodes.{own_of, own_of_node, state_of, IsPlaced}
-use Rattle.gl_graph.specs.Commands.{IsNoRollback, CanRollBack, Suits}
+use Rattle.gl_graph.specs.Commands.{CanRollBack, Suits}
+use Rattle.gl_graph.specs.Causes.{SuitsCause, IsPlain, begin_at}
 use Rattle.gl_graph.specs.Rollbacks.{TakesBack, IsRollback, IsRollbackOf, IsRefusedOf, IsSourceOf, start_at}
 use Rattle.gl_graph.specs.Graph.{IsGraph}
-use Rattle.gl_graph.specs.Waves.{IsRefused}
+use Rattle.gl_graph.specs.Waves.{IsStopping}
 use Rattle.gl_graph.specs.Spread.{put_back, CanTakeBack, HasLevel, IsBegun, IsLong}
 use Rattle.gl_graph.proofs.Inputs.{own_at_state, long_state, each_input}
 use Rattle.gl_graph.proofs.Shown.{placed_before}
@@ -42,31 +43,41 @@ use Rattle.gl_graph.proofs.WholeWaves.{none_given, begins_here, taken_of}
 
 -- ---- where it begins
 
--- a rollback begins elsewhere, and no other command does
-pub is_rollback : (s : State) (c : Command) (back : Rollback) → TakesBack s c back → ¬ IsNoRollback c
-is_rollback s c back takes plain = takes.apart (begins_here c (about c) back.source (own_at s (about c)) plain takes.begins)
+-- where a cause begins a wave at the list that it is about, by the number of that list
+pub begins_as : (cause : Cause) (own : Own) → begins cause own ≡ begin_at cause (subject cause) own
+begins_as (command c) own = refl
+begins_as (pump list) own = refl
+
+-- a cause that is no rollback begins at the list that it is about, if it begins
+pub begins_own : (cause : Cause) (i : ℕ) (own : Own) → IsPlain cause → begins cause own ≡ Some i → i ≡ subject cause
+begins_own (command c) i own plain e = begins_here c (about c) i own plain e
+begins_own (pump list) i own plain e = let same : list ≡ i = cc in sym same
+
+-- a rollback begins elsewhere, and no other cause does
+pub is_rollback : (s : State) (cause : Cause) (back : Rollback) → TakesBack s cause back → ¬ IsPlain cause
+is_rollback s cause back takes plain = takes.apart (begins_own cause back.source (own_at s (subject cause)) plain takes.begins)
 
 -- at any other list than its own or the source that it takes back, no wave begins
-pub not_begun : (s : State) (c : Command) (rollback : Option Rollback) (k : ℕ) → IsRollback s c rollback → k ≢ about c → ¬ IsSourceOf k rollback
-    → is_at (beginning c (about c) (own_at s (about c))) k ≡ false
-not_begun s c rollback k is other apart = by_begin (beginning c (about c) (own_at s (about c))) refl
+pub not_begun : (s : State) (cause : Cause) (rollback : Option Rollback) (k : ℕ) → IsRollback s cause rollback → k ≢ subject cause → ¬ IsSourceOf k rollback
+    → is_at (begins cause (own_at s (subject cause))) k ≡ false
+not_begun s cause rollback k is other apart = by_begin (begins cause (own_at s (subject cause))) refl
   where
-    apart_of : (o : Option Rollback) → IsRollback s c o → ¬ IsSourceOf k o → (i : ℕ) → beginning c (about c) (own_at s (about c)) ≡ Some i → k ≢ i
-    apart_of None plain free i e same = other (same ∙ begins_here c (about c) i (own_at s (about c)) plain e)
+    apart_of : (o : Option Rollback) → IsRollback s cause o → ¬ IsSourceOf k o → (i : ℕ) → begins cause (own_at s (subject cause)) ≡ Some i → k ≢ i
+    apart_of None plain free i e same = other (same ∙ begins_own cause i (own_at s (subject cause)) plain e)
     apart_of (Some back) takes free i e same = free (same ∙ (let both : Some i ≡ Some back.source = sym e ∙ takes.begins in cc))
 
-    by_begin : (o : Option ℕ) → beginning c (about c) (own_at s (about c)) ≡ o → is_at (beginning c (about c) (own_at s (about c))) k ≡ false
+    by_begin : (o : Option ℕ) → begins cause (own_at s (subject cause)) ≡ o → is_at (begins cause (own_at s (subject cause))) k ≡ false
     by_begin None e = ap (λ o. is_at o k) e
     by_begin (Some i) e = ap (λ o. is_at o k) e ∙ neq (apart_of rollback is apart i e)
       where
         neq : k ≢ i → is_at (Some i) k ≡ false
         neq h = not_equal k i h
 
--- where a wave begins at the list that a command is about, it is no rollback
-pub no_rollback : (s : State) (c : Command) (rollback : Option Rollback) (k : ℕ) → IsRollback s c rollback → k ≡ about c
-    → beginning c (about c) (own_at s (about c)) ≡ Some k → rollback ≡ None
-no_rollback s c None k is same here = refl
-no_rollback s c (Some back) k takes same here =
+-- where a wave begins at the list that a cause is about, it is no rollback
+pub no_rollback : (s : State) (cause : Cause) (rollback : Option Rollback) (k : ℕ) → IsRollback s cause rollback → k ≡ subject cause
+    → begins cause (own_at s (subject cause)) ≡ Some k → rollback ≡ None
+no_rollback s cause None k is same here = refl
+no_rollback s cause (Some back) k takes same here =
     absurd (takes.apart ((let both : Some back.source ≡ Some k = sym takes.begins ∙ here in let one : back.source ≡ k = cc in one) ∙ same))
 
 pub level_held : (own : Own) (i : ℕ) (level : Delta) (levels : List Delta) → own ≡ transaction i (level ∷ levels) → is_held own ≡ true
@@ -77,22 +88,32 @@ level_input own i level levels e = subst (λ o. Contains (inputs o) i) (sym e) (
 
 -- ---- the source
 
+-- what the list keeps that is rolled back
+pub record IsRolled (own : Own) (input : ℕ) : Type 0 where
+  pub level : Delta
+  pub levels : List Delta
+  pub is : own ≡ transaction input (level ∷ levels)
+
 -- what the definitions say of it
-pub back_of : (s : State) (c : Command) (back : Rollback) → Suits c (own_at s (about c)) → TakesBack s c back → RollsBack c (own_at s (about c)) back.source (shown s)
-back_of s c back suits takes = elsewhere c (own_at s (about c)) back.source (shown s) (taken_of s c suits takes.granted) takes.begins takes.apart
+rolls_back : (s : State) (c : Command) (back : Rollback) → Suits c (own_at s (about c)) → TakesBack s (command c) back → RollsBack c (own_at s (about c)) back.source (shown s)
+rolls_back s c back suits takes = elsewhere c (own_at s (about c)) back.source (shown s) (taken_of s (command c) suits takes.granted) takes.begins takes.apart
+
+pub back_of : (s : State) (cause : Cause) (back : Rollback) → SuitsCause cause (own_at s (subject cause)) → TakesBack s cause back → IsRolled (own_at s (subject cause)) back.source
+back_of s (command c) back suits takes = let r = rolls_back s c back suits takes in record { level = r.level; levels = r.levels; is = r.is }
+back_of s (pump list) back suits takes = absurd (is_rollback s (pump list) back takes tt)
 
 -- the list where the wave begins is one of the lists
-pub start_within : (limit : ℕ) (old : List Node) (positions : List ℕ) (c : Command) (rollback : Option Rollback) → IsBegun limit old positions c rollback → start_at rollback c < length positions
-start_within limit old positions c rollback begun = subst (λ n. start_at rollback c < n) (long_state old positions) (by_rollback rollback begun.is_rollback)
+pub start_within : (limit : ℕ) (old : List Node) (positions : List ℕ) (cause : Cause) (rollback : Option Rollback) → IsBegun limit old positions cause rollback → start_at rollback cause < length positions
+start_within limit old positions cause rollback begun = subst (λ n. start_at rollback cause < n) (long_state old positions) (by_rollback rollback begun.is_rollback)
   where
     s : State
     s = state_of old positions
 
-    by_rollback : (o : Option Rollback) → IsRollback s c o → start_at o c < length s
+    by_rollback : (o : Option Rollback) → IsRollback s cause o → start_at o cause < length s
     by_rollback None plain = begun.within
     by_rollback (Some back) takes =
-        let r = back_of s c back begun.suits takes in
-        input_within s begun.graph.sound.ordered (about c) back.source (level_input (own_at s (about c)) back.source r.level r.levels r.is)
+        let r = back_of s cause back begun.suits takes in
+        input_within s begun.graph.sound.ordered (subject cause) back.source (level_input (own_at s (subject cause)) back.source r.level r.levels r.is)
 
 -- what a list depends on stands before it
 pub input_below : (limit : ℕ) (nodes : List Node) (positions : List ℕ) (list i : ℕ) → IsGraph limit nodes positions → list < length positions → Contains (inputs (own_at (state_of nodes positions) list)) i
@@ -104,21 +125,21 @@ input_below limit nodes positions list i graph within d =
     (placed_before nodes positions at i
     (each_input (IsPlaced (take at nodes) positions) n.node.keeps i (graph.settled at n.node n.is).turn.later (subst (λ o. Contains (inputs o) i) own d))).1
 
--- the list that a command is about doesn't stand before the one where its wave begins
-pub not_before : (limit : ℕ) (old : List Node) (positions : List ℕ) (c : Command) (rollback : Option Rollback) → IsBegun limit old positions c rollback
-    → slice_index positions (start_at rollback c) ≤ slice_index positions (about c)
-not_before limit old positions c rollback begun = by_rollback rollback begun.is_rollback
+-- the list that a cause is about doesn't stand before the one where its wave begins
+pub not_before : (limit : ℕ) (old : List Node) (positions : List ℕ) (cause : Cause) (rollback : Option Rollback) → IsBegun limit old positions cause rollback
+    → slice_index positions (start_at rollback cause) ≤ slice_index positions (subject cause)
+not_before limit old positions cause rollback begun = by_rollback rollback begun.is_rollback
   where
     s : State
     s = state_of old positions
 
-    by_rollback : (o : Option Rollback) → IsRollback s c o → slice_index positions (start_at o c) ≤ slice_index positions (about c)
+    by_rollback : (o : Option Rollback) → IsRollback s cause o → slice_index positions (start_at o cause) ≤ slice_index positions (subject cause)
     by_rollback None plain = omega arith
     by_rollback (Some back) takes =
-        let r = back_of s c back begun.suits takes in
-        let low : slice_index positions back.source < slice_index positions (about c) =
-        input_below limit old positions (about c) back.source begun.graph (subst (λ n. about c < n) (long_state old positions) begun.within)
-        (level_input (own_at s (about c)) back.source r.level r.levels r.is) in
+        let r = back_of s cause back begun.suits takes in
+        let low : slice_index positions back.source < slice_index positions (subject cause) =
+        input_below limit old positions (subject cause) back.source begun.graph (subst (λ n. subject cause < n) (long_state old positions) begun.within)
+        (level_input (own_at s (subject cause)) back.source r.level r.levels r.is) in
         omega (arith, low)
 
 -- what follows from that
@@ -126,11 +147,12 @@ pub record IsBack (s : State) (back : Rollback) : Type 0 where
   pub is_source : IsSource (own_at s back.source)
   pub leads : LeadsFrom back.delta.pieces (shown s back.source)
 
-pub is_back : (limit : ℕ) (old : List Node) (positions : List ℕ) (c : Command) (back : Rollback) → IsGraph limit old positions → Suits c (own_at (state_of old positions) (about c))
-    → TakesBack (state_of old positions) c back → back.source < length (state_of old positions) → IsBack (state_of old positions) back
-is_back limit old positions c back graph suits takes there =
+pub is_back : (limit : ℕ) (old : List Node) (positions : List ℕ) (cause : Cause) (back : Rollback) → IsGraph limit old positions → SuitsCause cause (own_at (state_of old positions) (subject cause))
+    → TakesBack (state_of old positions) cause back → back.source < length (state_of old positions) → IsBack (state_of old positions) back
+is_back limit old positions (pump list) back graph suits takes there = absurd (is_rollback (state_of old positions) (pump list) back takes tt)
+is_back limit old positions (command c) back graph suits takes there =
     let s : State = state_of old positions in
-    let r = back_of s c back suits takes in
+    let r = rolls_back s c back suits takes in
     let taken : IsTakenBack s c back.source r.level r.levels = taken_back s c back.source graph.sound there r takes.begins in
     record {
       is_source = taken.is_source;
@@ -143,6 +165,7 @@ can_take_back d (Over input o) shows is leads = absurd is
 can_take_back d (Composite needed k) shows is leads = absurd is
 can_take_back d (Held input (h.Transaction t)) shows is leads = absurd is
 can_take_back d (Held input (h.Freezable since)) shows is leads = absurd is
+can_take_back d (Proxy input p) shows is leads = absurd is
 
 -- a source goes by its own delta
 pub source_later : (list : ℕ) (own : Own) (d e : ℕ → Delta) → IsSource own → d list ≡ e list → kept_later list own d ≡ kept_later list own e
@@ -166,6 +189,7 @@ has_level (Held input (h.Transaction t)) i level levels e =
     some : (level : Delta) (levels : List Delta) → 0 < length (level ∷ levels)
     some level levels = omega arith
 has_level (Held input (h.Freezable since)) i level levels e = absurd cc
+has_level (Proxy input p) i level levels e = absurd cc
 
 -- ---- what is found at the list that a rollback is about
 
@@ -183,7 +207,7 @@ node_own nodes positions list node within is = own_at_state nodes positions list
 
 -- it is what is taken back
 pub takes_back : (limit : ℕ) (nodes : List Node) (positions : List ℕ) (list : ℕ) (node : Node) (back : Rollback) → IsGraph limit nodes positions → list < length positions
-    → slice_get nodes (slice_index positions list) ≡ Some node → IsRollbackOf (own_of node.keeps) back → TakesBack (state_of nodes positions) (c.Rollback list) back
+    → slice_get nodes (slice_index positions list) ≡ Some node → IsRollbackOf (own_of node.keeps) back → TakesBack (state_of nodes positions) (command (c.Rollback list)) back
 takes_back limit nodes positions list node back graph within is of = by_own (own_of node.keeps) (node_own nodes positions list node within is) below of
   where
     s : State
@@ -193,7 +217,7 @@ takes_back limit nodes positions list node back graph within is of = by_own (own
     below i d = input_below limit nodes positions list i graph within (subst (λ o. Contains (inputs o) i) (sym (node_own nodes positions list node within is)) d)
 
     by_levels : (input : ℕ) (levels : List Delta) → own_at s list ≡ transaction input levels → slice_index positions input < slice_index positions list
-        → back.source ≡ input → levels ≢ [] → back.delta.pieces ≡ inverse_of levels → TakesBack s (c.Rollback list) back
+        → back.source ≡ input → levels ≢ [] → back.delta.pieces ≡ inverse_of levels → TakesBack s (command (c.Rollback list)) back
     by_levels input [] own low below_is some delta = absurd (some refl)
     by_levels input (level ∷ levels) own low below_is some delta = record {
       granted = ap (λ o. refused_by o (c.Rollback list)) own;
@@ -206,7 +230,7 @@ takes_back limit nodes positions list node back graph within is of = by_own (own
         not_itself e = let same : slice_index positions input ≡ slice_index positions list = ap (slice_index positions) e in omega (arith, low, same)
 
     by_own : (own : Own) → own_at s list ≡ own → ((i : ℕ) → Contains (inputs own) i → slice_index positions i < slice_index positions list)
-        → IsRollbackOf own back → TakesBack s (c.Rollback list) back
+        → IsRollbackOf own back → TakesBack s (command (c.Rollback list)) back
     by_own (source contents) e low h = absurd h
     by_own (over input view) e low h = absurd h
     by_own (composite needed members) e low h = absurd h
@@ -215,7 +239,7 @@ takes_back limit nodes positions list node back graph within is of = by_own (own
     by_own (proxy input kept queue) e low h = absurd h
 
 -- or why nothing is
-pub refused_back : (limit : ℕ) (s : State) (list : ℕ) (own : Own) (why : Refused) → own_at s list ≡ own → IsRefusedOf own why → IsRefused limit s (c.Rollback list) why
+pub refused_back : (limit : ℕ) (s : State) (list : ℕ) (own : Own) (why : Refused) → own_at s list ≡ own → IsRefusedOf own why → IsStopping limit s (command (c.Rollback list)) why
 refused_back limit s list (transaction input levels) NotOpen e h =
     let closed : own_at s list ≡ transaction input [] = e ∙ ap (transaction input) h in
     ap (λ o. option_or (refused_by o (c.Rollback list)) (too_long limit (wave s (command (c.Rollback list))))) closed

@@ -17,11 +17,17 @@ use Rattle.gl_graph.specs.declared.derived.Derived.TheVariants as d
 use Rattle.gl_graph.specs.declared.derived.DerivedUndo.{DerivedUndo}
 use Rattle.gl_graph.specs.declared.derived.DerivedUndo.TheVariants as du
 use Rattle.gl_graph.specs.declared.keeps.Keeps.{Keeps}
-use Rattle.gl_graph.specs.declared.keeps.Keeps.TheVariants.{Source, Over, Composite, Held}
+use Rattle.gl_graph.specs.declared.keeps.Keeps.TheVariants.{Source, Over, Composite, Held, Proxy}
 use Rattle.gl_graph.specs.declared.held.Held.{Held as HeldList}
 use Rattle.gl_graph.specs.declared.held.Held.TheVariants as h
 use Rattle.gl_graph.specs.Held as held
 use Rattle.gl_held.specs.declared.undo.HeldUndo.{HeldUndo}
+use Rattle.gl_held.specs.declared.undo.Way.{Way}
+use Rattle.gl_held.specs.declared.undo.Way.TheVariants.{Pumped}
+use Rattle.gl_held.specs.Copied.{Copied}
+use Rattle.gl_held.specs.CopiedBack.{values_before, queue_before, HasWayBack}
+use Rattle.spec_states.specs.Delta.{Delta}
+use Rattle.spec_states.specs.Laws.{LeadOnFrom}
 use Rattle.gl_graph.specs.declared.keeps.KeepsUndo.{KeepsUndo}
 use Rattle.gl_graph.specs.declared.keeps.KeepsUndo.TheVariants as u
 use Rattle.gl_graph.specs.Derived as derived
@@ -31,7 +37,7 @@ use Rattle.gl_graph.specs.Nodes.{own_of, OnInput, AreAmong, StandsFor}
 use Rattle.gl_graph.specs.Graph.{IsLimit, IsLimited}
 use Rattle.gl_graph.specs.Room.{Room, room, sorted_room, classes_room, IsNoMore}
 use Rattle.gl_graph.proofs.NoMore.{no_more}
-use Rattle.gl_graph.specs.Undos.{Contents, of_source, of_over, of_composite, of_held, contents, room_of, room_back, before, CanRetreat}
+use Rattle.gl_graph.specs.Undos.{Contents, of_source, of_over, of_composite, of_held, of_proxy, contents, room_of, room_back, before, CanRetreat}
 
 -- how much classes have room for
 abbrev classes_rooms : Room → Rooms
@@ -153,12 +159,18 @@ abbrev held_with : Room → held.Contents → HeldList
 held_with room (held.of_transaction levels) = h.Transaction (record { levels = levels; room = room.kept })
 held_with room (held.of_freezable since) = h.Freezable since
 
+-- the proxy that shows this and has this queue
+abbrev copy_with : Room → List Tree → List Delta → Copied
+copy_with room values queue =
+    record { values = values; queue = queue; room = room.kept; queue_room = room.members }
+
 -- what a list keeps of these contents that has so much room
 abbrev with_room : Room → Contents → Keeps
 with_room room (of_source values limit) = Source (record { values = values; limit = limit; room = room.kept })
 with_room room (of_over input c) = Over input (derived_with room c)
 with_room room (of_composite needed c) = Composite needed (composite_in room c)
 with_room room (of_held input c) = Held input (held_with room c)
+with_room room (of_proxy input values queue) = Proxy input (copy_with room values queue)
 
 its_own : (k : Keeps) → with_room (room_of k) (contents k) ≡ k
 its_own (Source k) = refl
@@ -166,6 +178,7 @@ its_own (Over input o) = ap (Over input) (derived_own o)
 its_own (Composite needed k) = refl
 its_own (Held input (h.Transaction t)) = refl
 its_own (Held input (h.Freezable since)) = refl
+its_own (Proxy input p) = refl
 
 -- what holds whatever the room holds of all lists of the same contents
 carried : (P : Keeps → Type 0) → ((r s : Room) (c : Contents) → P (with_room r c) → P (with_room s c)) → (a b : Keeps)
@@ -184,6 +197,7 @@ own_same a b e = carried (λ k. own_of a ≡ own_of k) any a b e refl
     any r s (of_composite needed c) e = e
     any r s (of_held input (held.of_transaction levels)) e = e
     any r s (of_held input (held.of_freezable since)) e = e
+    any r s (of_proxy input values queue) e = e
 
 pub stands_same : (shows : ℕ → List Tree) (a b : Keeps) → contents a ≡ contents b → StandsFor a shows
     → StandsFor b shows
@@ -195,6 +209,7 @@ stands_same shows a b e h = carried (λ k. StandsFor k shows) any a b e h
     any r s (of_composite needed c) e = e
     any r s (of_held input (held.of_transaction levels)) e = e
     any r s (of_held input (held.of_freezable since)) e = e
+    any r s (of_proxy input values queue) e = e
 
 pub limited_same : (limit : ℕ) (a b : Keeps) → contents a ≡ contents b → IsLimited limit a → IsLimited limit b
 limited_same limit a b e h = carried (λ k. IsLimited limit k) any a b e h
@@ -204,6 +219,7 @@ limited_same limit a b e h = carried (λ k. IsLimited limit k) any a b e h
     any r s (of_over input c) h = subst (IsLimit limit) (derived_limit r s c) h
     any r s (of_composite needed c) h = h
     any r s (of_held input c) h = h
+    any r s (of_proxy input values queue) h = h
 
 pub on_input_same : (P : ℕ → Type 0) (a b : Keeps) → contents a ≡ contents b → OnInput P a → OnInput P b
 on_input_same P a b e h = carried (λ k. OnInput P k) any a b e h
@@ -213,6 +229,7 @@ on_input_same P a b e h = carried (λ k. OnInput P k) any a b e h
     any r s (of_over input c) h = h
     any r s (of_composite needed c) h = h
     any r s (of_held input c) h = h
+    any r s (of_proxy input values queue) h = h
 
 -- an undo makes the same of lists of the same contents
 pub before_same : (undo : KeepsUndo) (a b : Keeps) → contents a ≡ contents b → before undo a ≡ before undo b
@@ -234,6 +251,12 @@ before_same undo a b e = carried (λ k. before undo a ≡ before undo k) (λ r s
     held_before : (undo : HeldUndo) (r s : Room) (c : held.Contents) → held.before undo (held_with r c) ≡ held.before undo (held_with s c)
     held_before undo r s (held.of_transaction levels) = refl
     held_before undo r s (held.of_freezable since) = refl
+
+    copy_before : (way : Way) (input : ℕ) (r s : Room) (values : List Tree) (queue : List Delta)
+        → of_proxy input (values_before way (copy_with r values queue)) (queue_before way queue)
+        ≡ of_proxy input (values_before way (copy_with s values queue)) (queue_before way queue)
+    copy_before (Pumped d undo) input r s values queue = refl
+    copy_before other input r s values queue = refl
 
     same_step : (step : Step) (needed : List ℕ) (r s : Room) (c : composite_stands.Contents) → composite_stands.stepped step (composite_in r c) ≡ composite_stands.stepped step (composite_in s c)
     same_step (Attached at) needed r s c = refl
@@ -257,6 +280,15 @@ before_same undo a b e = carried (λ k. before undo a ≡ before undo k) (λ r s
     any u.Unchanged r s (of_source values limit) = refl
     any u.Unchanged r s (of_over input c) = same_contents input r s c
     any u.Unchanged r s (of_composite needed c) = refl
+    any (u.Pumped undo) r s (of_source values limit) = refl
+    any (u.Pumped undo) r s (of_over input c) = same_contents input r s c
+    any (u.Pumped undo) r s (of_composite needed c) = refl
+    any (u.Pumped undo) r s (of_proxy input values queue) = copy_before undo.way input r s values queue
+    any (u.Source undo) r s (of_proxy input values queue) = refl
+    any (u.Over undo) r s (of_proxy input values queue) = refl
+    any (u.Composite undo) r s (of_proxy input values queue) = refl
+    any (u.Held undo) r s (of_proxy input values queue) = refl
+    any u.Unchanged r s (of_proxy input values queue) = refl
     any other r s (of_held input c) = same_held input r s c
 
 -- an undo can be taken of the one list as of the other, and leaves no less room there
@@ -269,6 +301,13 @@ step_in_more : (step : Step) (r s : Room) (c : composite_stands.Contents) → Is
 step_in_more (Attached at) r s c h can = can
 step_in_more (Detached at list len) r s c h can = (can.0, omega (arith, can.1, h.members), record { fits = omega (arith, can.2.fits, h.kept); few = can.2.few })
 step_in_more (Advanced log) r s c h can = can_play_more _ r.kept s.kept log.items c.lens h.kept can
+
+copy_in_more : (way : Way) (r s : Room) (values : List Tree) (queue : List Delta) → IsNoMore r s
+    → HasWayBack way (copy_with r values queue) → LeadOnFrom (queue_before way queue) (values_before way (copy_with r values queue))
+    → HasWayBack way (copy_with s values queue) × LeadOnFrom (queue_before way queue) (values_before way (copy_with s values queue))
+copy_in_more (Pumped d undo) r s values queue h has leads =
+    (record { within = has.within; can = can_play_more _ r.kept s.kept undo.log.items values h.kept has.can }, leads)
+copy_in_more other r s values queue h has leads = absurd has
 
 in_more : (undo : KeepsUndo) (r s : Room) (c : Contents) → IsNoMore r s → CanRetreat undo (with_room r c)
     → CanAlso undo (with_room r c) (with_room s c)
@@ -298,6 +337,21 @@ in_more (u.Held undo) r s (of_held input (held.of_transaction levels)) h can = r
   room = kept_alone r s h;
 }
 in_more (u.Held undo) r s (of_held input (held.of_freezable since)) h can = record { can = can; room = no_more _ }
+in_more (u.Pumped undo) r s (of_proxy input values queue) h can =
+    let more = copy_in_more undo.way r s values queue h can.has can.leads in
+    record {
+      can = record { has = more.0; leads = more.1; room = omega (arith, can.room, h.members) };
+      room = record { kept = h.kept; members = h.members; sorted = omega arith; firsts = omega arith };
+    }
+in_more (u.Source undo) r s (of_proxy input values queue) h can = absurd can
+in_more (u.Over undo) r s (of_proxy input values queue) h can = absurd can
+in_more (u.Composite undo) r s (of_proxy input values queue) h can = absurd can
+in_more (u.Held undo) r s (of_proxy input values queue) h can = absurd can
+in_more u.Unchanged r s (of_proxy input values queue) h can = absurd can
+in_more (u.Pumped undo) r s (of_source values limit) h can = absurd can
+in_more (u.Pumped undo) r s (of_over input c) h can = absurd can
+in_more (u.Pumped undo) r s (of_composite needed c) h can = absurd can
+in_more (u.Pumped undo) r s (of_held input c) h can = absurd can
 in_more u.Unchanged r s (of_held input (held.of_transaction levels)) h can = record { can = tt; room = kept_alone r s h }
 in_more u.Unchanged r s (of_held input (held.of_freezable since)) h can = record { can = tt; room = no_more _ }
 in_more (u.Source undo) r s (of_over input c) h can = absurd can
@@ -333,6 +387,7 @@ on_input_more f (Source k) h = h
 on_input_more f (Over input o) h = f input h
 on_input_more {P} {Q} f (Composite needed k) h = All-weaker P Q f needed h
 on_input_more f (Held input k) h = f input h
+on_input_more f (Proxy input p) h = f input h
 
 -- the members of a composite go by its contents
 pub among_same : (a b : Keeps) → contents a ≡ contents b → AreAmong a → AreAmong b
@@ -343,3 +398,4 @@ among_same a b e h = carried AreAmong any a b e h
     any r s (of_over input c) h = h
     any r s (of_composite needed c) h = h
     any r s (of_held input c) h = h
+    any r s (of_proxy input values queue) h = h

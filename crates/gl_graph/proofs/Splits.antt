@@ -2,7 +2,6 @@
 use Rattle.std.proofs.Common.{◌≡◌, ◌∙◌, ℕ, List, [], ◌∷◌, ◌++◌, length, take, drop, refl, ap, sym, subst}
 use Rattle.std.specs.Prelude.{Option, Some, Result, slice_get, slice_set, slice_index_or}
 use Rattle.std.proofs.Math.Seq.{take-append_seam}
-use Rattle.spec_states.specs.Command.{Command}
 use Rattle.gl_source.specs.Model.{DeltaModel}
 use Rattle.gl_graph.specs.declared.keeps.Keeps.{Keeps}
 use Rattle.gl_graph.specs.declared.node.Node.{Node}
@@ -12,6 +11,7 @@ use Rattle.gl_graph.specs.declared.graph.Refused.{Refused}
 use Rattle.gl_graph.specs.Nodes.{shown_by}
 use Rattle.gl_graph.specs.Spread.{IsTried, IsTriedAt}
 use Rattle.gl_graph.proofs.Sets.{set_long}
+use Rattle.spec_states.specs.Wave.{Cause}
 
 get_seam : (prefix back : List Node) → slice_get (prefix ++ back) (length prefix) ≡ slice_get back 0
 get_seam [] back = refl
@@ -39,12 +39,12 @@ set_back nodes prefix back position len now whole long len_is =
     let whole_len : len ≡ length xs = len_is ∙ (sym (set_long nodes position now) ∙ ap length same) in
     ap (λ n. take n (xs ++ drop (length xs) nodes)) whole_len ∙ (take-append_seam xs (drop (length xs) nodes) ∙ sym same)
 
-pub tried_at : (rollback : Option Rollback) (positions : List ℕ) (c : Command) (deltas : List (Option DeltaModel)) (position len : ℕ) (nodes prefix back : List Node) (was first : Node) (new : Keeps)
+pub tried_at : (rollback : Option Rollback) (positions : List ℕ) (cause : Cause) (deltas : List (Option DeltaModel)) (position len : ℕ) (nodes prefix back : List Node) (was first : Node) (new : Keeps)
     (result : Result Turned Refused) → nodes ≡ prefix ++ back → prefix ≡ take position nodes → length prefix ≡ position → len ≡ length nodes → slice_get nodes position ≡ Some was → first ≡ was
-    → IsTried rollback (shown_by prefix positions) c deltas first.list first.keeps new result
-    → IsTriedAt rollback positions c deltas position nodes
+    → IsTried rollback (shown_by prefix positions) cause deltas first.list first.keeps new result
+    → IsTriedAt rollback positions cause deltas position nodes
     (take len ((prefix ++ slice_set back 0 (record { list = first.list; keeps = new })) ++ drop (length (prefix ++ slice_set back 0 (record { list = first.list; keeps = new }))) nodes)) result
-tried_at rollback positions c deltas position len nodes prefix back was first new result whole prefix_is long len_is there same tried = record {
+tried_at rollback positions cause deltas position len nodes prefix back was first new result whole prefix_is long len_is there same tried = record {
   was = was;
   now = record { list = first.list; keeps = new };
   set = record {
@@ -52,6 +52,6 @@ tried_at rollback positions c deltas position len nodes prefix back was first ne
     is = set_back nodes prefix back position len (record { list = first.list; keeps = new }) whole long len_is;
     list = ap (λ (n : Node). n.list) same;
   };
-  tried = subst (λ (n : Node). IsTried rollback (shown_by (take position nodes) positions) c deltas n.list n.keeps new result) same
-      (subst (λ ns. IsTried rollback (shown_by ns positions) c deltas first.list first.keeps new result) prefix_is tried);
+  tried = subst (λ (n : Node). IsTried rollback (shown_by (take position nodes) positions) cause deltas n.list n.keeps new result) same
+      (subst (λ ns. IsTried rollback (shown_by ns positions) cause deltas first.list first.keeps new result) prefix_is tried);
 }

@@ -3,11 +3,10 @@ use Rattle.std.proofs.Common.{◌≡◌, ◌≢◌, ◌∙◌, ℕ, suc, ◌<◌
 use Rattle.std.specs.Prelude.{Option, Some, slice_get, slice_index}
 use Rattle.std.specs.List.{Contains}
 use Rattle.std.proofs.lemmas.Bool.{ltb-true, ltb-false, eqb-true, eqb-false}
-use Rattle.spec_states.specs.Command.{Command}
 use Rattle.gl_source.specs.Model.{DeltaModel}
 use Rattle.spec_states.specs.State.{State, own_at}
 use Rattle.spec_states.specs.Shown.{shown_of, shown}
-use Rattle.spec_states.specs.Wave.{command, wave}
+use Rattle.spec_states.specs.Wave.{wave, Cause}
 use Rattle.spec_states.proofs.Views.{Inward, shown_local, shown_in, wave_ordered}
 use Rattle.gl_graph.specs.declared.keeps.Keeps.{Keeps}
 use Rattle.gl_graph.specs.declared.node.Node.{Node}
@@ -23,30 +22,30 @@ use Rattle.gl_graph.proofs.Next.{IsTurn, long_wave, the_next}
 use Rattle.gl_graph.proofs.Turns.{IsOn}
 
 -- its members are still among what it depends on
-now_inward : {limit : ℕ} {old : List Node} {positions : List ℕ} {c : Command} {rollback : Option Rollback} {q : ℕ} {nodes : List Node} {told : List (Option DeltaModel)} {was now : Node}
-    → IsTurn limit old positions c rollback q nodes told was → IsOn old positions c rollback q nodes was now → Inward (own_of now.keeps)
-now_inward {limit = limit} {old = old} {positions = positions} {c = c} {was = was} t on = subst Inward (sym on.own) (graph_inward limit old positions c t.begun.graph t.begun.suits was.list)
+now_inward : {limit : ℕ} {old : List Node} {positions : List ℕ} {cause : Cause} {rollback : Option Rollback} {q : ℕ} {nodes : List Node} {told : List (Option DeltaModel)} {was now : Node}
+    → IsTurn limit old positions cause rollback q nodes told was → IsOn old positions cause rollback q nodes was now → Inward (own_of now.keeps)
+now_inward {limit = limit} {old = old} {positions = positions} {cause = cause} {was = was} t on = subst Inward (sym on.own) (graph_inward limit old positions cause t.begun.graph t.begun.suits was.list)
 
 -- what it shows
-pub on_shows : {limit : ℕ} {old : List Node} {positions : List ℕ} {c : Command} {rollback : Option Rollback} {q : ℕ} {nodes : List Node} {told : List (Option DeltaModel)} {was now : Node}
-    → IsTurn limit old positions c rollback q nodes told was → IsOn old positions c rollback q nodes was now
-    → shown_of (own_of now.keeps) (shown_by (take q nodes) positions) ≡ shown (wave (state_of old positions) (command c)) was.list
-on_shows {limit = limit} {old = old} {positions = positions} {c = c} {q = q} {nodes = nodes} {was = was} {now = now} t on =
+pub on_shows : {limit : ℕ} {old : List Node} {positions : List ℕ} {cause : Cause} {rollback : Option Rollback} {q : ℕ} {nodes : List Node} {told : List (Option DeltaModel)} {was now : Node}
+    → IsTurn limit old positions cause rollback q nodes told was → IsOn old positions cause rollback q nodes was now
+    → shown_of (own_of now.keeps) (shown_by (take q nodes) positions) ≡ shown (wave (state_of old positions) cause) was.list
+on_shows {limit = limit} {old = old} {positions = positions} {cause = cause} {q = q} {nodes = nodes} {was = was} {now = now} t on =
     let s : State = state_of old positions in
-    let w : State = wave s (command c) in
-    let after : was.list < length w = omega (arith, t.next.within, long_wave old positions c, long_state old positions) in
+    let w : State = wave s cause in
+    let after : was.list < length w = omega (arith, t.next.within, long_wave old positions cause, long_state old positions) in
     shown_local (own_of now.keeps) (now_inward t on) (shown_by (take q nodes) positions) (shown w) (λ i d. t.next.shows i (subst (λ is. Contains is i) on.inputs_are d))
     ∙ (ap (λ o. shown_of o (shown w)) on.own
-    ∙ sym (shown_in w (wave_ordered s (command c) t.begun.graph.sound.ordered) (graph_inward limit old positions c t.begun.graph t.begun.suits) was.list after))
+    ∙ sym (shown_in w (wave_ordered s cause t.begun.graph.sound.ordered) (graph_inward limit old positions cause t.begun.graph t.begun.suits) was.list after))
 
 limited_by : (limit : ℕ) (k m : Keeps) → limit_of m ≡ limit_of k → IsLimited limit k → IsLimited limit m
 limited_by limit k m e h = subst (IsLimit limit) (sym e) h
 
 -- the nodes one place further
-pub inverse_more : {limit : ℕ} {old : List Node} {positions : List ℕ} {c : Command} {rollback : Option Rollback} {q : ℕ} {nodes : List Node} {told : List (Option DeltaModel)} {was now : Node} (others : List Node)
-    → IsTurn limit old positions c rollback q nodes told was → IsSetAt q nodes others was now → IsOn old positions c rollback q nodes was now
-    → length (shown_of (own_of now.keeps) (shown_by (take q nodes) positions)) ≤ limit → AreInverse limit old positions c rollback (suc q) others
-inverse_more {limit = limit} {old = old} {positions = positions} {c = c} {rollback = rollback} {q = q} {nodes = nodes} {told = told} {was = was} {now = now} others t set on short = record {
+pub inverse_more : {limit : ℕ} {old : List Node} {positions : List ℕ} {cause : Cause} {rollback : Option Rollback} {q : ℕ} {nodes : List Node} {told : List (Option DeltaModel)} {was now : Node} (others : List Node)
+    → IsTurn limit old positions cause rollback q nodes told was → IsSetAt q nodes others was now → IsOn old positions cause rollback q nodes was now
+    → length (shown_of (own_of now.keeps) (shown_by (take q nodes) positions)) ≤ limit → AreInverse limit old positions cause rollback (suc q) others
+inverse_more {limit = limit} {old = old} {positions = positions} {cause = cause} {rollback = rollback} {q = q} {nodes = nodes} {told = told} {was = was} {now = now} others t set on short = record {
   numbers_are = ap numbers set.is ∙ (set_numbers nodes q was now set.there set.list ∙ t.are.numbers_are);
   dependency_order = dependency_order;
   settled = settled_more others positions q now dependency_order (subst (λ xs. AreSettled xs positions) (sym prefix) t.are.settled) here
@@ -63,7 +62,7 @@ inverse_more {limit = limit} {old = old} {positions = positions} {c = c} {rollba
     s = state_of old positions
 
     w : State
-    w = wave s (command c)
+    w = wave s cause
 
     prefix : take q others ≡ take q nodes
     prefix = ap (take q) set.is ∙ set_prefix nodes q now

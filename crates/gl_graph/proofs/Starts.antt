@@ -7,8 +7,6 @@ use Rattle.std.proofs.lemmas.Bool.{le-leb, lt-leb}
 use Rattle.std.proofs.lemmas.Option.{slice_get_within}
 use Rattle.std.proofs.lemmas.List.{length-map}
 use Rattle.std.proofs.lemmas.List.FromFn.{length-map-range_with_len}
-use Rattle.spec_states.specs.Edges.{AreWithin}
-use Rattle.spec_states.specs.Cycle.{HasCycle}
 use Rattle.spec_states.specs.Order.{IsOrder}
 use Rattle.spec_states.proofs.Acyclic.{Contains-order}
 use Rattle.spec_states.proofs.Members.{Contains-here, Contains-later}
@@ -18,23 +16,22 @@ use Rattle.spec_states.specs.ListKind.TheVariants as kinds
 use Rattle.spec_states.specs.Reply.{Reply}
 use Rattle.spec_states.specs.Reply.TheVariants as reply
 use Rattle.spec_states.specs.DependencyOrder.{dependency_order as order_by}
-use Rattle.spec_states.specs.Plan.{Plan, inputs_of, edges_from, list_edges}
+use Rattle.spec_states.specs.Plan.{Plan, inputs_of, list_edges}
 use Rattle.gl_plan.specs.Whole.{IsWhole}
-use Rattle.spec_states.specs.State.{Own, State, inputs, opening_of, own_at, edges_of, dependency_order}
-use Rattle.spec_states.specs.Opening.{seen_through, shown_first, opening}
+use Rattle.spec_states.specs.State.{State, proxy, inputs, opening_of, own_at, edges_of, dependency_order}
 use Rattle.spec_states.specs.Shown.{Table, shown_of, shown, shows_in, table_of}
 use Rattle.spec_states.specs.Step.{first_longer, too_long}
 use Rattle.spec_states.specs.Laws.{IsOrdered, IsSound}
 use Rattle.spec_states.proofs.DependencyOrder.{ordered, order_follow}
-use Rattle.spec_states.proofs.Views.{Inward, IsInward, shown_local, shown_in, inputs_as_declared}
+use Rattle.spec_states.proofs.Views.{Inward, sound_inward, shown_local, shown_in, opening_of_inputs, opening_edges}
+use Rattle.spec_states.proofs.Openings.{length-opening, opening_ordered, opening_shows}
 use Rattle.gl_graph.specs.declared.node.Node.{Node}
 use Rattle.gl_graph.specs.declared.fault.BuildFault.{BuildFault}
 use Rattle.gl_graph.specs.declared.fault.BuildFault.TheVariants.{TooLong, Memory}
 use Rattle.gl_graph.specs.Nodes.{own_of_node, own_in, state_of, numbers, shown_by, IsPlaced}
-use Rattle.gl_graph.specs.Opening.{IsBuilt, IsKindBuilt, AreKindsBuilt}
+use Rattle.gl_graph.specs.Opening.{OnInputs}
 use Rattle.gl_graph.specs.Positions.{ArePositions}
-use Rattle.gl_graph.specs.Build.{IsOneMore, IsFault, AreOpened, AreReady, AreOpen, IsReason, opened_lists}
-use Rattle.std.proofs.lemmas.List.Elements.{Contains-append_left}
+use Rattle.gl_graph.specs.Build.{IsOneMore, IsFault, AreOpened, AreReady, AreOpen, IsReason, shown_before, opened_lists}
 use Rattle.gl_graph.proofs.Inputs.{own_at_state, on_inputs, all_of}
 use Rattle.gl_graph.proofs.Shown.{order_of_settled}
 use Rattle.gl_graph.proofs.Prefixes.{node_of, agrees}
@@ -43,122 +40,79 @@ use Rattle.gl_graph.proofs.Built.{opened_more}
 use Rattle.gl_graph.proofs.Dispatch.{order_below, placed_in, follow_at, take_next, take_all, take_long, index_of_get}
 use Rattle.spec_states.proofs.Longer.{few_shown}
 
-built_of : (P : ℕ → Type 0) (kind : ListKind) → IsKindBuilt kind → ((i : ℕ) → Contains (inputs (seen_through kind)) i → P i) → IsBuilt P kind
-built_of P (kinds.Source rows) h f = tt
-built_of P (kinds.Filter input matcher) h f = f input (Contains-here input [] input refl)
-built_of P (kinds.Sorted input order) h f = f input (Contains-here input [] input refl)
-built_of P (kinds.Unique input order) h f = f input (Contains-here input [] input refl)
-built_of P (kinds.Grouping input order) h f = f input (Contains-here input [] input refl)
-built_of P (kinds.Range input bounds) h f = f input (Contains-here input [] input refl)
-built_of P (kinds.Function input func) h f = f input (Contains-here input [] input refl)
-built_of P (kinds.Collection input kids) h f = f input (Contains-here input [] input refl)
-built_of P (kinds.Composite members may) h f = all_of P (members ++ may) f
-built_of P (kinds.Transaction input) h f = f input (Contains-here input [] input refl)
-built_of P (kinds.Freezable input) h f = f input (Contains-here input [] input refl)
-built_of P other h f = absurd h
+-- said of each list that a list of a plan depends on
+inputs_all : (P : ℕ → Type 0) (kind : ListKind) → ((i : ℕ) → Contains (inputs_of kind) i → P i) → OnInputs P kind
+inputs_all P (kinds.Source rows) f = tt
+inputs_all P (kinds.Filter input matcher) f = f input (Contains-here input [] input refl)
+inputs_all P (kinds.Sorted input order) f = f input (Contains-here input [] input refl)
+inputs_all P (kinds.Unique input order) f = f input (Contains-here input [] input refl)
+inputs_all P (kinds.Grouping input order) f = f input (Contains-here input [] input refl)
+inputs_all P (kinds.Range input bounds) f = f input (Contains-here input [] input refl)
+inputs_all P (kinds.Function input func) f = f input (Contains-here input [] input refl)
+inputs_all P (kinds.Collection input kids) f = f input (Contains-here input [] input refl)
+inputs_all P (kinds.Composite members may) f = all_of P (members ++ may) f
+inputs_all P (kinds.Transaction input) f = f input (Contains-here input [] input refl)
+inputs_all P (kinds.Freezable input) f = f input (Contains-here input [] input refl)
+inputs_all P (kinds.Proxy input) f = f input (Contains-here input [] input refl)
 
--- the members of a composite are among what it depends on
-seen_inward : (kind : ListKind) → IsKindBuilt kind → Inward (seen_through kind)
-seen_inward (kinds.Source rows) h = tt
-seen_inward (kinds.Filter input matcher) h = tt
-seen_inward (kinds.Sorted input order) h = tt
-seen_inward (kinds.Unique input order) h = tt
-seen_inward (kinds.Grouping input order) h = tt
-seen_inward (kinds.Range input bounds) h = tt
-seen_inward (kinds.Function input func) h = tt
-seen_inward (kinds.Collection input kids) h = tt
-seen_inward (kinds.Composite members may) h =
-    all_of (λ member. Contains (members ++ may) member) members (λ i c. Contains-append_left members may i c)
-seen_inward (kinds.Transaction input) h = tt
-seen_inward (kinds.Freezable input) h = tt
-seen_inward other h = absurd h
+-- what a list opens with goes by what the lists show that it depends on
+opening_local : (f g : ℕ → List Tree) (kind : ListKind) → ((i : ℕ) → Contains (inputs_of kind) i → f i ≡ g i) → opening_of f kind ≡ opening_of g kind
+opening_local f g (kinds.Source rows) same = refl
+opening_local f g (kinds.Filter input matcher) same = refl
+opening_local f g (kinds.Sorted input order) same = refl
+opening_local f g (kinds.Unique input order) same = refl
+opening_local f g (kinds.Grouping input order) same = refl
+opening_local f g (kinds.Range input bounds) same = refl
+opening_local f g (kinds.Function input func) same = refl
+opening_local f g (kinds.Collection input kids) same = refl
+opening_local f g (kinds.Composite members may) same = refl
+opening_local f g (kinds.Transaction input) same = refl
+opening_local f g (kinds.Freezable input) same = refl
+opening_local f g (kinds.Proxy input) same = ap (λ xs. proxy input xs []) (same input (Contains-here input [] input refl))
 
-seen_opening : (shows : ℕ → List Tree) (kind : ListKind) → IsKindBuilt kind → opening_of shows kind ≡ seen_through kind
-seen_opening shows (kinds.Source rows) h = refl
-seen_opening shows (kinds.Filter input matcher) h = refl
-seen_opening shows (kinds.Sorted input order) h = refl
-seen_opening shows (kinds.Unique input order) h = refl
-seen_opening shows (kinds.Grouping input order) h = refl
-seen_opening shows (kinds.Range input bounds) h = refl
-seen_opening shows (kinds.Function input func) h = refl
-seen_opening shows (kinds.Collection input kids) h = refl
-seen_opening shows (kinds.Composite members may) h = refl
-seen_opening shows (kinds.Transaction input) h = refl
-seen_opening shows (kinds.Freezable input) h = refl
-seen_opening shows other h = absurd h
-
-built_rest : (d : ListDecl) (lists : List ListDecl) → AreKindsBuilt (d ∷ lists) → AreKindsBuilt lists
-built_rest d lists h k e at = h (suc k) e at
-
-opened_inward : (lists : List ListDecl) → AreKindsBuilt lists → IsInward (opened_lists lists)
-opened_inward [] h list = tt
-opened_inward (d ∷ lists) h zero = seen_inward d.kind (h 0 d refl)
-opened_inward (d ∷ lists) h (suc list) = opened_inward lists (built_rest d lists h) list
-
-all_opening : (shows : ℕ → List Tree) (lists : List ListDecl) → AreKindsBuilt lists → map (λ (d : ListDecl). opening_of shows d.kind) lists ≡ opened_lists lists
-all_opening shows [] h = refl
-all_opening shows (d ∷ lists) h =
-    ap (λ (o : Own). o ∷ map (λ (e : ListDecl). opening_of shows e.kind) lists) (seen_opening shows d.kind (h 0 d refl))
-    ∙ ap (λ s. seen_through d.kind ∷ s) (all_opening shows lists (built_rest d lists h))
-
--- what they open with is what a plan of them does
-pub opening_is : (p : Plan) → AreKindsBuilt p.lists → opening p ≡ opened_lists p.lists
-opening_is p h = all_opening (shown_first p) p.lists h
+-- lists as the lists of a plan
+abbrev plan_of : List ListDecl → Plan
+plan_of lists = record { limit = 0; lists = lists; listeners = []; writers = [] }
 
 -- what a list of these opens with
-own_opened : (lists : List ListDecl) (list : ℕ) (d : ListDecl) → slice_get lists list ≡ Some d → own_at (opened_lists lists) list ≡ seen_through d.kind
-own_opened [] list d e = absurd cc
-own_opened (c ∷ lists) zero d e = let same : c ≡ d = cc in ap (λ (x : ListDecl). seen_through x.kind) same
-own_opened (c ∷ lists) (suc list) d e = own_opened lists list d e
+own_opened : (lists : List ListDecl) (list : ℕ) (d : ListDecl) → slice_get lists list ≡ Some d → own_at (opened_lists lists) list ≡ opening_of (shown_before lists) d.kind
+own_opened lists list d e = own_in_map (shown_before lists) lists list e
+  where
+    own_in_map : (shows : ℕ → List Tree) (ds : List ListDecl) (k : ℕ) → slice_get ds k ≡ Some d
+        → own_at (map (λ (x : ListDecl). opening_of shows x.kind) ds) k ≡ opening_of shows d.kind
+    own_in_map shows [] k e = absurd cc
+    own_in_map shows (c ∷ ds) zero e = let same : c ≡ d = cc in ap (λ (x : ListDecl). opening_of shows x.kind) same
+    own_in_map shows (c ∷ ds) (suc k) e = own_in_map shows ds k e
+
+-- and what it depends on
+inputs_opened : (lists : List ListDecl) (list : ℕ) (d : ListDecl) → slice_get lists list ≡ Some d → inputs (own_at (opened_lists lists) list) ≡ inputs_of d.kind
+inputs_opened lists list d e = ap inputs (own_opened lists list d e) ∙ opening_of_inputs (shown_before lists) d.kind
 
 long_opened : (lists : List ListDecl) → length (opened_lists lists) ≡ length lists
-long_opened [] = refl
-long_opened (d ∷ lists) = ap suc (long_opened lists)
-
--- what depends on what in it
-pub opened_edges : (lists : List ListDecl) → edges_of (opened_lists lists) ≡ edges_from 0 (map (λ (d : ListDecl). inputs_of d.kind) lists)
-opened_edges lists = ap (edges_from 0) (inputs_as_declared seen_through seen_inputs lists)
-  where
-    seen_inputs : (kind : ListKind) → inputs (seen_through kind) ≡ inputs_of kind
-    seen_inputs (kinds.Source rows) = refl
-    seen_inputs (kinds.Filter input matcher) = refl
-    seen_inputs (kinds.Sorted input order) = refl
-    seen_inputs (kinds.Unique input order) = refl
-    seen_inputs (kinds.Grouping input order) = refl
-    seen_inputs (kinds.Range input bounds) = refl
-    seen_inputs (kinds.Function input func) = refl
-    seen_inputs (kinds.Collection input path) = refl
-    seen_inputs (kinds.Composite members may) = refl
-    seen_inputs (kinds.Transaction input) = refl
-    seen_inputs (kinds.Freezable input) = refl
-    seen_inputs (kinds.Proxy input) = refl
+long_opened lists = length-opening (plan_of lists)
 
 -- the order of a plan's lists
-pub whole_ordered : (p : Plan) → IsWhole p → IsOrdered (opened_lists p.lists)
-whole_ordered p h = record {
-  within = subst (λ n. AreWithin n (edges_of (opened_lists p.lists))) (sym (long_opened p.lists)) (subst (AreWithin (length p.lists)) (sym (opened_edges p.lists)) h.lists_within);
-  acyclic = subst (λ es. ¬ HasCycle es) (sym (opened_edges p.lists)) h.acyclic.lists;
-}
+whole_ordered : (p : Plan) → IsWhole p → IsOrdered (opened_lists p.lists)
+whole_ordered p h = opening_ordered p h.lists_within h.acyclic.lists
 
-pub plan_order : (p : Plan) (order : List ℕ) → IsWhole p → order ≡ order_by (length p.lists) (list_edges p) → order ≡ dependency_order (opened_lists p.lists)
-plan_order p order h is =
-    is ∙ (ap (λ n. order_by n (list_edges p)) (sym (long_opened p.lists)) ∙ ap (order_by (length (opened_lists p.lists))) (sym (opened_edges p.lists)))
+plan_order : (p : Plan) (order : List ℕ) → order ≡ order_by (length p.lists) (list_edges p) → order ≡ dependency_order (opened_lists p.lists)
+plan_order p order is =
+    is ∙ (ap (λ n. order_by n (list_edges p)) (sym (long_opened p.lists)) ∙ ap (order_by (length (opened_lists p.lists))) (sym (opening_edges p)))
 
 pub plan_is_order : (p : Plan) (order : List ℕ) → IsWhole p → order ≡ order_by (length p.lists) (list_edges p) → IsOrder (length p.lists) (edges_of (opened_lists p.lists)) order
 plan_is_order p order h is =
     let s : State = opened_lists p.lists in
     subst (λ n. IsOrder n (edges_of s) order) (long_opened p.lists)
-    (subst (IsOrder (length s) (edges_of s)) (sym (plan_order p order h is)) (ordered s (whole_ordered p h)))
+    (subst (IsOrder (length s) (edges_of s)) (sym (plan_order p order is)) (ordered s (whole_ordered p h)))
 
 -- lists in their dependency order, with their places there
-pub ready_of : (p : Plan) (positions order : List ℕ) → IsWhole p → AreKindsBuilt p.lists → order ≡ order_by (length p.lists) (list_edges p)
+pub ready_of : (p : Plan) (positions order : List ℕ) → IsWhole p → order ≡ order_by (length p.lists) (list_edges p)
     → length positions ≡ length p.lists → ArePositions positions order (length p.lists) → AreReady p.limit p.lists positions order
-ready_of p positions order h built is long are = record {
+ready_of p positions order h is long are = record {
   few_lists = h.few_lists;
   few = omega (arith, h.limit.few);
-  built = built;
-  sound = subst IsSound (opening_is p built) (whole_sound p h (subst IsOrdered (sym (opening_is p built)) (whole_ordered p h)));
-  order_is = plan_order p order h is;
+  sound = whole_sound p h (whole_ordered p h);
+  order_is = plan_order p order is;
   long = long;
   positions_are = are;
 }
@@ -177,11 +131,11 @@ prefix_placed limit lists positions order nodes k list ready numbers_are c =
 
 -- what the next list follows is open
 next_inputs : (limit : ℕ) (lists : List ListDecl) (positions order : List ℕ) (nodes : List Node) (k list : ℕ) (d : ListDecl) → AreReady limit lists positions order
-    → numbers nodes ≡ take k order → slice_get order k ≡ Some list → slice_get lists list ≡ Some d → (i : ℕ) → Contains (inputs (seen_through d.kind)) i → IsPlaced nodes positions i
+    → numbers nodes ≡ take k order → slice_get order k ≡ Some list → slice_get lists list ≡ Some d → (i : ℕ) → Contains (inputs_of d.kind) i → IsPlaced nodes positions i
 next_inputs limit lists positions order nodes k list d ready numbers_are here there i c =
     let s : State = opened_lists lists in
     let turn : slice_get (dependency_order s) k ≡ Some list = subst (λ xs. slice_get xs k ≡ Some list) ready.order_is here in
-    let need : Contains (inputs (own_at s list)) i = subst (λ o. Contains (inputs o) i) (sym (own_opened lists list d there)) c in
+    let need : Contains (inputs (own_at s list)) i = subst (λ xs. Contains xs i) (sym (inputs_opened lists list d there)) c in
     let before : Contains (take k (dependency_order s)) i = follow_at (λ l. inputs (own_at s l)) [] (dependency_order s) k list (order_follow s ready.sound.ordered) turn i need in
     prefix_placed limit lists positions order nodes k i ready numbers_are (subst (λ xs. Contains (take k xs) i) (sym ready.order_is) before)
 
@@ -192,16 +146,34 @@ next_within limit lists positions order k list ready here =
     let below : slice_index order k < length lists = order_below (length lists) (edges_of (opened_lists lists)) order is.prefix k (slice_get_within order k list here) in
     omega (arith, below, index)
 
-pub next_built : (limit : ℕ) (lists : List ListDecl) (positions order : List ℕ) (nodes : List Node) (k list : ℕ) (d : ListDecl) → AreReady limit lists positions order
-    → AreOpened limit (opened_lists lists) positions order k nodes → slice_get order k ≡ Some list → slice_get lists list ≡ Some d → IsBuilt (IsPlaced nodes positions) d.kind
-next_built limit lists positions order nodes k list d ready opened here there =
-    built_of (IsPlaced nodes positions) d.kind (ready.built list d there) (next_inputs limit lists positions order nodes k list d ready opened.order_is here there)
+pub inputs_placed : (limit : ℕ) (lists : List ListDecl) (positions order : List ℕ) (nodes : List Node) (k list : ℕ) (d : ListDecl) → AreReady limit lists positions order
+    → AreOpened limit (opened_lists lists) positions order k nodes → slice_get order k ≡ Some list → slice_get lists list ≡ Some d → OnInputs (IsPlaced nodes positions) d.kind
+inputs_placed limit lists positions order nodes k list d ready opened here there =
+    inputs_all (IsPlaced nodes positions) d.kind (next_inputs limit lists positions order nodes k list d ready opened.order_is here there)
+
+-- what is open shows what it shows in the end
+opened_shows : (limit : ℕ) (lists : List ListDecl) (positions order : List ℕ) (nodes : List Node) (k list : ℕ) → AreReady limit lists positions order
+    → AreOpened limit (opened_lists lists) positions order k nodes → IsPlaced nodes positions list → shown_by nodes positions list ≡ shown (opened_lists lists) list
+opened_shows limit lists positions order nodes k list ready opened placed =
+    agrees nodes positions (opened_lists lists) (order_of_settled nodes positions opened.settled) ready.sound.ordered (sound_inward (opened_lists lists) ready.sound) (long_opened lists ∙ sym ready.long) opened.own list placed
+
+-- so the next list opens with what the state says
+next_own : (limit : ℕ) (lists : List ListDecl) (positions order : List ℕ) (nodes : List Node) (k list : ℕ) (d : ListDecl) → AreReady limit lists positions order
+    → AreOpened limit (opened_lists lists) positions order k nodes → slice_get order k ≡ Some list → slice_get lists list ≡ Some d
+    → opening_of (shown_by nodes positions) d.kind ≡ own_at (opened_lists lists) list
+next_own limit lists positions order nodes k list d ready opened here there =
+    opening_local (shown_by nodes positions) (shown_before lists) d.kind (λ i c.
+    let placed = next_inputs limit lists positions order nodes k list d ready opened.order_is here there i c in
+    let within : i < length lists = subst (λ n. i < n) ready.long placed.within in
+    opened_shows limit lists positions order nodes k i ready opened placed ∙ opening_shows (plan_of lists) ready.sound.ordered i within)
+    ∙ sym (own_opened lists list d there)
 
 pub next_opened : (limit : ℕ) (lists : List ListDecl) (positions order : List ℕ) (nodes after : List Node) (k list : ℕ) (d : ListDecl) → AreReady limit lists positions order
     → AreOpened limit (opened_lists lists) positions order k nodes → slice_get order k ≡ Some list → slice_get lists list ≡ Some d
-    → IsOneMore limit positions list (seen_through d.kind) nodes after → AreOpened limit (opened_lists lists) positions order (suc k) after
+    → IsOneMore limit positions list (opening_of (shown_by nodes positions) d.kind) nodes after → AreOpened limit (opened_lists lists) positions order (suc k) after
 next_opened limit lists positions order nodes after k list d ready opened here there more =
     let s : State = opened_lists lists in
+    let shows : ℕ → List Tree = shown_by nodes positions in
     let is = order_of limit lists positions order ready in
     let within : k < length order = slice_get_within order k list here in
     let number_len : length nodes ≡ length (numbers nodes) = sym (length-map nodes (λ (n : Node). n.list)) in
@@ -209,11 +181,13 @@ next_opened limit lists positions order nodes after k list d ready opened here t
     let index : slice_index order k ≡ list = index_of_get order k list here in
     let below : slice_index order k < length lists = order_below (length lists) (edges_of s) order is.prefix k within in
     let placed : slice_index positions list ≡ k = subst (λ l. slice_index positions l ≡ k) index (ready.positions_are k (omega (arith, within, is.whole))) in
-    let result = opened_more limit s positions order nodes after list (seen_through d.kind) ready.few
+    let own : opening_of shows d.kind ≡ own_at s list = next_own limit lists positions order nodes k list d ready opened here there in
+    let needs : inputs (opening_of shows d.kind) ≡ inputs_of d.kind = opening_of_inputs shows d.kind in
+    let result = opened_more limit s positions order nodes after list (opening_of shows d.kind) ready.few
     (subst (λ m. AreOpened limit s positions order m nodes) (sym long) opened) more
-    (omega (arith, below, index, ready.long)) (placed ∙ sym long) (sym (own_opened lists list d there))
-    (λ node own. on_inputs (IsPlaced nodes positions) node.keeps (λ i c. next_inputs limit lists positions order nodes k list d ready opened.order_is here there i (subst (λ o. Contains (inputs o) i) own c)))
-    (seen_inward d.kind (ready.built list d there))
+    (omega (arith, below, index, ready.long)) (placed ∙ sym long) own
+    (λ node kept. on_inputs (IsPlaced nodes positions) node.keeps (λ i c. next_inputs limit lists positions order nodes k list d ready opened.order_is here there i (subst (λ xs. Contains xs i) (ap inputs kept ∙ needs) c)))
+    (subst Inward (sym own) (sound_inward s ready.sound list))
     (subst (λ m. take (suc m) order ≡ take m order ++ list ∷ []) (sym long) (take_next order k list here)) in
     subst (λ m. AreOpened limit s positions order (suc m) after) long result
 
@@ -238,12 +212,6 @@ longer_at limit t (y ∷ ys) (suc k) x e few more =
     ap (choose t limit ys y) (le_yes (length (shows_in t y)) limit (few y (Contains-here y (take k ys) y refl)))
     ∙ longer_at limit t ys k x e (λ z c. few z (Contains-later y (take k ys) z c)) more
 
--- what is open shows what it shows in the end
-opened_shows : (limit : ℕ) (lists : List ListDecl) (positions order : List ℕ) (nodes : List Node) (k list : ℕ) → AreReady limit lists positions order
-    → AreOpened limit (opened_lists lists) positions order k nodes → IsPlaced nodes positions list → shown_by nodes positions list ≡ shown (opened_lists lists) list
-opened_shows limit lists positions order nodes k list ready opened placed =
-    agrees nodes positions (opened_lists lists) (order_of_settled nodes positions opened.settled) ready.sound.ordered (opened_inward lists ready.built) (long_opened lists ∙ sym ready.long) opened.own list placed
-
 opened_few : (limit : ℕ) (lists : List ListDecl) (positions order : List ℕ) (nodes : List Node) (k : ℕ) → AreReady limit lists positions order
     → AreOpened limit (opened_lists lists) positions order k nodes → (list : ℕ) → Contains (take k order) list → length (shown (opened_lists lists) list) ≤ limit
 opened_few limit lists positions order nodes k ready opened list c =
@@ -254,18 +222,19 @@ opened_few limit lists positions order nodes k ready opened list c =
 
 pub next_reason : (limit : ℕ) (lists : List ListDecl) (positions order : List ℕ) (nodes : List Node) (k list : ℕ) (d : ListDecl) (fault : BuildFault) → AreReady limit lists positions order
     → AreOpened limit (opened_lists lists) positions order k nodes → slice_get order k ≡ Some list → slice_get lists list ≡ Some d
-    → IsFault limit list (length (shown_of (seen_through d.kind) (shown_by nodes positions))) fault → IsReason limit (opened_lists lists) fault
+    → IsFault limit list (length (shown_of (opening_of (shown_by nodes positions) d.kind) (shown_by nodes positions))) fault → IsReason limit (opened_lists lists) fault
 next_reason limit lists positions order nodes k list d Memory ready opened here there fault = tt
 next_reason limit lists positions order nodes k list d (TooLong number n) ready opened here there fault =
     let s : State = opened_lists lists in
-    let is = order_of limit lists positions order ready in
-    let within : k < length order = slice_get_within order k list here in
-    let index : slice_index order k ≡ list = index_of_get order k list here in
-    let below : slice_index order k < length lists = order_below (length lists) (edges_of s) order is.prefix k within in
-    let own = own_opened lists list d there in
-    let same : shown_of (seen_through d.kind) (shown_by nodes positions) ≡ shown s list =
-    shown_local (seen_through d.kind) (seen_inward d.kind (ready.built list d there)) (shown_by nodes positions) (shown s) (λ i c. opened_shows limit lists positions order nodes k i ready opened (next_inputs limit lists positions order nodes k list d ready opened.order_is here there i c))
-    ∙ (ap (λ o. shown_of o (shown s)) (sym own) ∙ sym (shown_in s ready.sound.ordered (opened_inward lists ready.built) list (omega (arith, below, index, long_opened lists)))) in
+    let shows : ℕ → List Tree = shown_by nodes positions in
+    let inward = sound_inward s ready.sound in
+    let within : list < length lists = next_within limit lists positions order k list ready here in
+    let own : opening_of shows d.kind ≡ own_at s list = next_own limit lists positions order nodes k list d ready opened here there in
+    let through : shown_of (own_at s list) shows ≡ shown_of (own_at s list) (shown s) =
+    shown_local (own_at s list) (inward list) shows (shown s) (λ i c. opened_shows limit lists positions order nodes k i ready opened
+    (next_inputs limit lists positions order nodes k list d ready opened.order_is here there i (subst (λ xs. Contains xs i) (inputs_opened lists list d there) c))) in
+    let same : shown_of (opening_of shows d.kind) shows ≡ shown s list =
+    ap (λ o. shown_of o shows) own ∙ (through ∙ sym (shown_in s ready.sound.ordered inward list (omega (arith, within, long_opened lists)))) in
     let more : limit < length (shown s list) = subst (λ xs. limit < length xs) same fault.2 in
     let long : n ≡ length (shown s list) = fault.1 ∙ ap length same in
     ap (first_longer limit (table_of s)) (sym ready.order_is)

@@ -1,11 +1,9 @@
 -- One place further: what was tried there is told, kept for the way back, or the reason why the command is refused.
-use Rattle.std.proofs.Common.{◌≡◌, ◌≢◌, ◌∙◌, ℕ, zero, suc, ◌<◌, ◌≤◌, List, [], ◌∷◌, ◌++◌, length, take, replicate, refl, ap, sym, subst, arith}
+use Rattle.std.proofs.Common.{◌≡◌, ◌≢◌, ◌∙◌, ℕ, zero, suc, ◌<◌, ◌≤◌, List, [], ◌∷◌, ◌++◌, length, take, replicate, refl, ap, sym, subst, arith, inl}
 use Rattle.std.proofs.lemmas.List.{length-map}
 use Rattle.std.specs.Prelude.{Option, Some, None, Result, Ok, Err, IfErr, OnOk, OnErr, slice_get, slice_set, slice_index, slice_index_or}
 use Rattle.std.specs.List.{Contains}
-use Rattle.spec_states.specs.Command.{Command}
 use Rattle.gl_source.specs.Model.{DeltaModel}
-use Rattle.spec_states.specs.Plan.{origin as about}
 use Rattle.spec_states.specs.Shown.{shown_of}
 use Rattle.gl_graph.specs.declared.node.Node.{Node}
 use Rattle.gl_graph.specs.declared.keeps.KeepsUndo.{KeepsUndo}
@@ -18,7 +16,7 @@ use Rattle.gl_graph.specs.Rollbacks.{IsSourceOf, start_at}
 use Rattle.gl_graph.specs.Room.{IsNoMore}
 use Rattle.gl_graph.specs.Undos.{contents, room_of}
 use Rattle.gl_graph.proofs.NoMore.{no_more}
-use Rattle.gl_graph.specs.Waves.{Made, by_position, AreApart, IsRefused, before_one, room_one, CanGoBack}
+use Rattle.gl_graph.specs.Waves.{Made, by_position, AreApart, before_one, room_one, CanGoBack, IsStopping}
 use Rattle.gl_graph.specs.Spread.{HasBegun, IsStep, IsTriedAt, IsSetAt, CanTurnAt, StandAt, len_by, shown_len_at, IsPut, IsOver, IsBegun, IsSpread, LeadBack, HaveBack}
 use Rattle.gl_graph.proofs.Inputs.{each_input, on_inputs}
 use Rattle.gl_graph.proofs.Taken.{placed_last, apart_more}
@@ -32,6 +30,7 @@ use Rattle.gl_graph.proofs.Spreads.{on_shows, inverse_more}
 use Rattle.gl_graph.proofs.Tellings.{told_still, told_put}
 use Rattle.gl_graph.proofs.Refusals.{stop_refused, over_refused}
 use Rattle.gl_graph.proofs.Ends.{shown_few, nodes_few, start_low, spread_begins}
+use Rattle.spec_states.specs.Wave.{Cause, subject}
 
 -- what leads back still does, once the node at a place keeps something else and has its undo
 back_more : (old nodes others : List Node) (undos : List (Option KeepsUndo)) (q : ℕ) (was now : Node) (undo : Option KeepsUndo) → LeadBack old nodes undos → IsSetAt q nodes others was now
@@ -89,24 +88,24 @@ waits_same nodes others made q was now set waiting p high within =
     ∙ waiting p (omega (arith, high)) (omega (arith, within, long_set nodes others q was now set))
 
 -- the node whose turn it is, as it was tried
-turn_in : {limit : ℕ} {old : List Node} {positions : List ℕ} {c : Command} {rollback : Option Rollback} {q : ℕ} {nodes : List Node} {told : List (Option DeltaModel)} {made : Made} (was : Node)
-    → IsSpread limit old positions c rollback q nodes told made → slice_get nodes q ≡ Some was → IsTurn limit old positions c rollback q nodes told was
+turn_in : {limit : ℕ} {old : List Node} {positions : List ℕ} {cause : Cause} {rollback : Option Rollback} {q : ℕ} {nodes : List Node} {told : List (Option DeltaModel)} {made : Made} (was : Node)
+    → IsSpread limit old positions cause rollback q nodes told made → slice_get nodes q ≡ Some was → IsTurn limit old positions cause rollback q nodes told was
 turn_in was h at = turn_of was h.begun h.inverted h.told_to at
 
-waits_here : {limit : ℕ} {old : List Node} {positions : List ℕ} {c : Command} {rollback : Option Rollback} {q : ℕ} {nodes : List Node} {told : List (Option DeltaModel)} {made : Made} → q < length nodes
-    → IsSpread limit old positions c rollback q nodes told made → slice_get (by_position (length nodes) made) q ≡ Some None
+waits_here : {limit : ℕ} {old : List Node} {positions : List ℕ} {cause : Cause} {rollback : Option Rollback} {q : ℕ} {nodes : List Node} {told : List (Option DeltaModel)} {made : Made} → q < length nodes
+    → IsSpread limit old positions cause rollback q nodes told made → slice_get (by_position (length nodes) made) q ≡ Some None
 waits_here {q = q} within h = h.waiting q (omega arith) within
 
 -- a list that shows what it did is within the limit
-still_few : {limit : ℕ} {old : List Node} {positions : List ℕ} {c : Command} {rollback : Option Rollback} {q : ℕ} {nodes : List Node} {told : List (Option DeltaModel)} {was now : Node}
-    → IsTurn limit old positions c rollback q nodes told was → IsOn old positions c rollback q nodes was now → IsStill old positions c was
+still_few : {limit : ℕ} {old : List Node} {positions : List ℕ} {cause : Cause} {rollback : Option Rollback} {q : ℕ} {nodes : List Node} {told : List (Option DeltaModel)} {was now : Node}
+    → IsTurn limit old positions cause rollback q nodes told was → IsOn old positions cause rollback q nodes was now → IsStill old positions cause was
     → length (shown_of (own_of now.keeps) (shown_by (take q nodes) positions)) ≤ limit
 still_few {limit = limit} {old = old} {positions = positions} {was = was} t on still =
     subst (λ xs. length xs ≤ limit) (sym (on_shows t on ∙ still.same)) (shown_few limit old positions t.begun.graph was.list t.next.turn.within)
 
 -- it stays
-pub none_more : {limit : ℕ} {old : List Node} {positions : List ℕ} {c : Command} {rollback : Option Rollback} {q : ℕ} {nodes : List Node} {told : List (Option DeltaModel)} {made : Made} (others : List Node) → q < length nodes
-    → IsTriedAt rollback positions c told q nodes others (Ok Stays) → IsSpread limit old positions c rollback q nodes told made → IsSpread limit old positions c rollback (suc q) others told made
+pub none_more : {limit : ℕ} {old : List Node} {positions : List ℕ} {cause : Cause} {rollback : Option Rollback} {q : ℕ} {nodes : List Node} {told : List (Option DeltaModel)} {made : Made} (others : List Node) → q < length nodes
+    → IsTriedAt rollback positions cause told q nodes others (Ok Stays) → IsSpread limit old positions cause rollback q nodes told made → IsSpread limit old positions cause rollback (suc q) others told made
 none_more {old = old} {q = q} {nodes = nodes} {made = made} others within tried h =
     let was = tried.was in
     let now = tried.now in
@@ -122,15 +121,15 @@ none_more {old = old} {q = q} {nodes = nodes} {made = made} others within tried 
     }
 
 -- the way back where it changed
-back_by : {limit : ℕ} {old : List Node} {positions : List ℕ} {c : Command} {rollback : Option Rollback} {q : ℕ} {nodes : List Node} {told : List (Option DeltaModel)} {made : Made} (others : List Node) (was now : Node) (undo : KeepsUndo) → q < length nodes → IsSetAt q nodes others was now
-    → IsOnBy old positions c rollback q nodes was now undo → IsSpread limit old positions c rollback q nodes told made → HaveBack old others (made ++ (q, undo) ∷ [])
+back_by : {limit : ℕ} {old : List Node} {positions : List ℕ} {cause : Cause} {rollback : Option Rollback} {q : ℕ} {nodes : List Node} {told : List (Option DeltaModel)} {made : Made} (others : List Node) (was now : Node) (undo : KeepsUndo) → q < length nodes → IsSetAt q nodes others was now
+    → IsOnBy old positions cause rollback q nodes was now undo → IsSpread limit old positions cause rollback q nodes told made → HaveBack old others (made ++ (q, undo) ∷ [])
 back_by {old = old} {q = q} {nodes = nodes} {made = made} others was now undo within set by h =
     have_more old nodes others made q was now undo h.back set (waits_here within h) by.undo_is.back by.undo_is.can by.undo_is.room
 
 -- it keeps something else in silence
-pub silent_more : {limit : ℕ} {old : List Node} {positions : List ℕ} {c : Command} {rollback : Option Rollback} {q : ℕ} {nodes : List Node} {told : List (Option DeltaModel)} {made : Made} (others : List Node) (undo : KeepsUndo) → q < length nodes
-    → IsTriedAt rollback positions c told q nodes others (Ok (Silent undo)) → IsSpread limit old positions c rollback q nodes told made
-    → IsSpread limit old positions c rollback (suc q) others told (made ++ (q, undo) ∷ [])
+pub silent_more : {limit : ℕ} {old : List Node} {positions : List ℕ} {cause : Cause} {rollback : Option Rollback} {q : ℕ} {nodes : List Node} {told : List (Option DeltaModel)} {made : Made} (others : List Node) (undo : KeepsUndo) → q < length nodes
+    → IsTriedAt rollback positions cause told q nodes others (Ok (Silent undo)) → IsSpread limit old positions cause rollback q nodes told made
+    → IsSpread limit old positions cause rollback (suc q) others told (made ++ (q, undo) ∷ [])
 silent_more {q = q} {nodes = nodes} {made = made} others undo within tried h =
     let was = tried.was in
     let now = tried.now in
@@ -145,10 +144,10 @@ silent_more {q = q} {nodes = nodes} {made = made} others undo within tried h =
     }
 
 -- it is told of
-pub told_more : {limit : ℕ} {old : List Node} {positions : List ℕ} {c : Command} {rollback : Option Rollback} {q : ℕ} {nodes : List Node} {told : List (Option DeltaModel)} {made : Made} (others : List Node) (after : List (Option DeltaModel)) (d : DeltaModel) (undo : KeepsUndo) → q < length nodes
-    → (tried : IsTriedAt rollback positions c told q nodes others (Ok (Told d undo))) → IsPut tried.was.list d told after
-    → length (shown_of (own_of tried.now.keeps) (shown_by (take q nodes) positions)) ≤ limit → IsSpread limit old positions c rollback q nodes told made
-    → IsSpread limit old positions c rollback (suc q) others after (made ++ (q, undo) ∷ [])
+pub told_more : {limit : ℕ} {old : List Node} {positions : List ℕ} {cause : Cause} {rollback : Option Rollback} {q : ℕ} {nodes : List Node} {told : List (Option DeltaModel)} {made : Made} (others : List Node) (after : List (Option DeltaModel)) (d : DeltaModel) (undo : KeepsUndo) → q < length nodes
+    → (tried : IsTriedAt rollback positions cause told q nodes others (Ok (Told d undo))) → IsPut tried.was.list d told after
+    → length (shown_of (own_of tried.now.keeps) (shown_by (take q nodes) positions)) ≤ limit → IsSpread limit old positions cause rollback q nodes told made
+    → IsSpread limit old positions cause rollback (suc q) others after (made ++ (q, undo) ∷ [])
 told_more {q = q} {nodes = nodes} {made = made} others after d undo within tried put few h =
     let was = tried.was in
     let now = tried.now in
@@ -163,13 +162,13 @@ told_more {q = q} {nodes = nodes} {made = made} others after d undo within tried
     }
 
 -- it isn't turned
-pub stop_back : {limit : ℕ} {old : List Node} {positions : List ℕ} {c : Command} {rollback : Option Rollback} {q : ℕ} {nodes : List Node} {told : List (Option DeltaModel)} {made : Made} (others : List Node) (why : Refused)
-    → q < length nodes → IsTriedAt rollback positions c told q nodes others (Err why) → IsSpread limit old positions c rollback q nodes told made → HaveBack old others made
+pub stop_back : {limit : ℕ} {old : List Node} {positions : List ℕ} {cause : Cause} {rollback : Option Rollback} {q : ℕ} {nodes : List Node} {told : List (Option DeltaModel)} {made : Made} (others : List Node) (why : Refused)
+    → q < length nodes → IsTriedAt rollback positions cause told q nodes others (Err why) → IsSpread limit old positions cause rollback q nodes told made → HaveBack old others made
 stop_back {old = old} {q = q} {nodes = nodes} {made = made} others why within tried h =
     have_same old nodes others made q tried.was tried.now h.back tried.set (waits_here within h) tried.tried.err tried.tried.room
 
-pub stop_reason : {limit : ℕ} {old : List Node} {positions : List ℕ} {c : Command} {rollback : Option Rollback} {q : ℕ} {nodes : List Node} {told : List (Option DeltaModel)} {made : Made} (others : List Node) (why : Refused)
-    → IsTriedAt rollback positions c told q nodes others (Err why) → IsSpread limit old positions c rollback q nodes told made → IsRefused limit (state_of old positions) c why
+pub stop_reason : {limit : ℕ} {old : List Node} {positions : List ℕ} {cause : Cause} {rollback : Option Rollback} {q : ℕ} {nodes : List Node} {told : List (Option DeltaModel)} {made : Made} (others : List Node) (why : Refused)
+    → IsTriedAt rollback positions cause told q nodes others (Err why) → IsSpread limit old positions cause rollback q nodes told made → IsStopping limit (state_of old positions) cause why
 stop_reason {limit = limit} {q = q} others why tried h =
     let was = tried.was in
     stop_refused why (turn_in was h tried.set.there) (tried.tried.stopped limit (h.inverted.limited q was tried.set.there))
@@ -184,24 +183,24 @@ has_node [] q within = absurd (omega (arith, within))
 has_node (n ∷ nodes) zero within = record { node = n; there = refl }
 has_node (n ∷ nodes) (suc q) within = let h = has_node nodes q (omega (arith, within)) in record { node = h.node; there = h.there }
 
-pub spread_order : {limit : ℕ} {old : List Node} {positions : List ℕ} {c : Command} {rollback : Option Rollback} {q : ℕ} {nodes : List Node} {told : List (Option DeltaModel)} {made : Made} → q < length nodes
-    → IsSpread limit old positions c rollback q nodes told made → CanTurnAt rollback positions c told q nodes
+pub spread_order : {limit : ℕ} {old : List Node} {positions : List ℕ} {cause : Cause} {rollback : Option Rollback} {q : ℕ} {nodes : List Node} {told : List (Option DeltaModel)} {made : Made} → q < length nodes
+    → IsSpread limit old positions cause rollback q nodes told made → CanTurnAt rollback positions cause told q nodes
 spread_order {q = q} {nodes = nodes} within h =
     let at = has_node nodes q within in
     can_turn (turn_in at.node h at.there) at.there
 
 -- ---- what is needed to tell of it
 
-pub node_within : {positions : List ℕ} {c : Command} {rollback : Option Rollback} {q : ℕ} {nodes : List Node} {told : List (Option DeltaModel)} (others : List Node) (r : Result Turned Refused) → q < length nodes
-    → IsTriedAt rollback positions c told q nodes others r → q < length others
+pub node_within : {positions : List ℕ} {cause : Cause} {rollback : Option Rollback} {q : ℕ} {nodes : List Node} {told : List (Option DeltaModel)} (others : List Node) (r : Result Turned Refused) → q < length nodes
+    → IsTriedAt rollback positions cause told q nodes others r → q < length others
 node_within {q = q} {nodes = nodes} others r within tried = omega (arith, within, ap length tried.set.is ∙ set_long nodes q tried.now)
 
-node_here : {positions : List ℕ} {c : Command} {rollback : Option Rollback} {q : ℕ} {nodes : List Node} {told : List (Option DeltaModel)} (others : List Node) (r : Result Turned Refused)
-    → (tried : IsTriedAt rollback positions c told q nodes others r) → slice_get others q ≡ Some tried.now
+node_here : {positions : List ℕ} {cause : Cause} {rollback : Option Rollback} {q : ℕ} {nodes : List Node} {told : List (Option DeltaModel)} (others : List Node) (r : Result Turned Refused)
+    → (tried : IsTriedAt rollback positions cause told q nodes others r) → slice_get others q ≡ Some tried.now
 node_here {q = q} {nodes = nodes} others r tried = ap (λ ns. slice_get ns q) tried.set.is ∙ set_here nodes q tried.was tried.now tried.set.there
 
-pub node_listed : {limit : ℕ} {old : List Node} {positions : List ℕ} {c : Command} {rollback : Option Rollback} {q : ℕ} {nodes : List Node} {told : List (Option DeltaModel)} {made : Made} (others : List Node)
-    (r : Result Turned Refused) → IsTriedAt rollback positions c told q nodes others r → IsSpread limit old positions c rollback q nodes told made
+pub node_listed : {limit : ℕ} {old : List Node} {positions : List ℕ} {cause : Cause} {rollback : Option Rollback} {q : ℕ} {nodes : List Node} {told : List (Option DeltaModel)} {made : Made} (others : List Node)
+    (r : Result Turned Refused) → IsTriedAt rollback positions cause told q nodes others r → IsSpread limit old positions cause rollback q nodes told made
     → (node : Node) → slice_get others q ≡ Some node → node.list < length told
 node_listed {positions = positions} {told = told} others r tried h node at =
     let t = turn_in tried.was h tried.set.there in
@@ -215,8 +214,8 @@ prefix_same : (q : ℕ) (nodes others : List Node) (was now : Node) → IsSetAt 
 prefix_same q nodes others was now set = ap (take q) set.is ∙ set_prefix nodes q now
 
 -- it stands for what they show
-pub stand_at : {limit : ℕ} {old : List Node} {positions : List ℕ} {c : Command} {rollback : Option Rollback} {q : ℕ} {nodes : List Node} {told : List (Option DeltaModel)} {made : Made} (others : List Node) (d : DeltaModel) (undo : KeepsUndo) → q < length nodes
-    → IsTriedAt rollback positions c told q nodes others (Ok (Told d undo)) → IsSpread limit old positions c rollback q nodes told made → StandAt positions q others
+pub stand_at : {limit : ℕ} {old : List Node} {positions : List ℕ} {cause : Cause} {rollback : Option Rollback} {q : ℕ} {nodes : List Node} {told : List (Option DeltaModel)} {made : Made} (others : List Node) (d : DeltaModel) (undo : KeepsUndo) → q < length nodes
+    → IsTriedAt rollback positions cause told q nodes others (Ok (Told d undo)) → IsSpread limit old positions cause rollback q nodes told made → StandAt positions q others
 stand_at {positions = positions} {q = q} {nodes = nodes} others d undo within tried h =
     let was = tried.was in
     let now = tried.now in
@@ -233,8 +232,8 @@ stand_at {positions = positions} {q = q} {nodes = nodes} others d undo within tr
     }
 
 -- and shows so many elements
-len_at : {positions : List ℕ} {c : Command} {rollback : Option Rollback} {q : ℕ} {nodes : List Node} {told : List (Option DeltaModel)} (others : List Node) (r : Result Turned Refused)
-    → (tried : IsTriedAt rollback positions c told q nodes others r)
+len_at : {positions : List ℕ} {cause : Cause} {rollback : Option Rollback} {q : ℕ} {nodes : List Node} {told : List (Option DeltaModel)} (others : List Node) (r : Result Turned Refused)
+    → (tried : IsTriedAt rollback positions cause told q nodes others r)
     → shown_len_at positions q others ≡ length (shown_of (own_of tried.now.keeps) (shown_by (take q nodes) positions))
 len_at {positions = positions} {q = q} {nodes = nodes} others r tried =
     ap (λ o. len_by o (shown_by (take q others) positions)) (node_here others r tried)
@@ -242,20 +241,20 @@ len_at {positions = positions} {q = q} {nodes = nodes} others r tried =
 
 -- ---- what comes of it
 
-pub told_ok : {R : Type 0} {limit : ℕ} {old : List Node} {positions : List ℕ} {c : Command} {rollback : Option Rollback} {q : ℕ} {nodes : List Node} {told : List (Option DeltaModel)} {made : Made} (others : List Node) (after : List (Option DeltaModel)) (d : DeltaModel) (undo : KeepsUndo) (r : Result R Refused) → q < length nodes
-    → IsTriedAt rollback positions c told q nodes others (Ok (Told d undo)) → ((node : Node) → slice_get others q ≡ Some node → IsPut node.list d told after)
-    → OnOk r (shown_len_at positions q others ≤ limit) → IsSpread limit old positions c rollback q nodes told made
-    → OnOk r (IsSpread limit old positions c rollback (suc q) others after (made ++ (q, undo) ∷ []))
+pub told_ok : {R : Type 0} {limit : ℕ} {old : List Node} {positions : List ℕ} {cause : Cause} {rollback : Option Rollback} {q : ℕ} {nodes : List Node} {told : List (Option DeltaModel)} {made : Made} (others : List Node) (after : List (Option DeltaModel)) (d : DeltaModel) (undo : KeepsUndo) (r : Result R Refused) → q < length nodes
+    → IsTriedAt rollback positions cause told q nodes others (Ok (Told d undo)) → ((node : Node) → slice_get others q ≡ Some node → IsPut node.list d told after)
+    → OnOk r (shown_len_at positions q others ≤ limit) → IsSpread limit old positions cause rollback q nodes told made
+    → OnOk r (IsSpread limit old positions cause rollback (suc q) others after (made ++ (q, undo) ∷ []))
 told_ok others after d undo (Err why) within tried put short h = tt
 told_ok {limit = limit} {told = told} others after d undo (Ok x) within tried put short h =
     let here = node_here others (Ok (Told d undo)) tried in
     told_more others after d undo within tried (subst (λ l. IsPut l d told after) tried.set.list (put tried.now here))
     (subst (λ n. n ≤ limit) (len_at others (Ok (Told d undo)) tried) short) h
 
-pub told_refused : {R : Type 0} {limit : ℕ} {old : List Node} {positions : List ℕ} {c : Command} {rollback : Option Rollback} {q : ℕ} {nodes : List Node} {told : List (Option DeltaModel)} {made : Made} (others : List Node) (d : DeltaModel) (undo : KeepsUndo) (r : Result R Refused)
-    → IsTriedAt rollback positions c told q nodes others (Ok (Told d undo))
+pub told_refused : {R : Type 0} {limit : ℕ} {old : List Node} {positions : List ℕ} {cause : Cause} {rollback : Option Rollback} {q : ℕ} {nodes : List Node} {told : List (Option DeltaModel)} {made : Made} (others : List Node) (d : DeltaModel) (undo : KeepsUndo) (r : Result R Refused)
+    → IsTriedAt rollback positions cause told q nodes others (Ok (Told d undo))
     → ((node : Node) → slice_get others q ≡ Some node → IfErr r (IsOver limit node.list (shown_len_at positions q others)))
-    → IsSpread limit old positions c rollback q nodes told made → IfErr r (IsRefused limit (state_of old positions) c)
+    → IsSpread limit old positions cause rollback q nodes told made → IfErr r (IsStopping limit (state_of old positions) cause)
 told_refused others d undo (Ok x) tried over h = tt
 told_refused {limit = limit} {positions = positions} {q = q} {nodes = nodes} others d undo (Err why) tried over h =
     let was = tried.was in
@@ -265,16 +264,16 @@ told_refused {limit = limit} {positions = positions} {q = q} {nodes = nodes} oth
     over_refused undo why t on.by
     (subst (λ l. IsOver limit l (length (shown_of (own_of now.keeps) (shown_by (take q nodes) positions))) why) tried.set.list (subst (λ n. IsOver limit now.list n why) (len_at others (Ok (Told d undo)) tried) (over now (node_here others (Ok (Told d undo)) tried))))
 
-pub told_back : {R : Type 0} {limit : ℕ} {old : List Node} {positions : List ℕ} {c : Command} {rollback : Option Rollback} {q : ℕ} {nodes : List Node} {told : List (Option DeltaModel)} {made : Made} (others : List Node) (d : DeltaModel) (undo : KeepsUndo) (r : Result R Refused) → q < length nodes
-    → IsTriedAt rollback positions c told q nodes others (Ok (Told d undo)) → IsSpread limit old positions c rollback q nodes told made → OnErr r (HaveBack old others (made ++ (q, undo) ∷ []))
+pub told_back : {R : Type 0} {limit : ℕ} {old : List Node} {positions : List ℕ} {cause : Cause} {rollback : Option Rollback} {q : ℕ} {nodes : List Node} {told : List (Option DeltaModel)} {made : Made} (others : List Node) (d : DeltaModel) (undo : KeepsUndo) (r : Result R Refused) → q < length nodes
+    → IsTriedAt rollback positions cause told q nodes others (Ok (Told d undo)) → IsSpread limit old positions cause rollback q nodes told made → OnErr r (HaveBack old others (made ++ (q, undo) ∷ []))
 told_back others d undo (Ok x) within tried h = tt
 told_back others d undo (Err why) within tried h =
     let t = turn_in tried.was h tried.set.there in
     let on = told_by {now = tried.now} t tried.tried.ok in
     back_by others tried.was tried.now undo within tried.set on.by h
 
-pub position_few : {limit : ℕ} {old : List Node} {positions : List ℕ} {c : Command} {rollback : Option Rollback} {q : ℕ} {nodes : List Node} {told : List (Option DeltaModel)} {made : Made} → q < length nodes
-    → IsSpread limit old positions c rollback q nodes told made → q < 4294967296
+pub position_few : {limit : ℕ} {old : List Node} {positions : List ℕ} {cause : Cause} {rollback : Option Rollback} {q : ℕ} {nodes : List Node} {told : List (Option DeltaModel)} {made : Made} → q < length nodes
+    → IsSpread limit old positions cause rollback q nodes told made → q < 4294967296
 position_few {limit = limit} {old = old} {positions = positions} {nodes = nodes} within h =
     let long : length nodes ≡ length old =
     sym (length-map nodes (λ (n : Node). n.list)) ∙ (ap length h.inverted.numbers_are ∙ length-map old (λ (n : Node). n.list)) in
@@ -283,9 +282,9 @@ position_few {limit = limit} {old = old} {positions = positions} {nodes = nodes}
 -- ---- how it begins
 
 -- a list before the one where the wave begins stays
-skip_one : {limit : ℕ} {old : List Node} {positions : List ℕ} {c : Command} {rollback : Option Rollback} {q : ℕ} {nodes : List Node} {told : List (Option DeltaModel)} {made : Made} → q < length nodes
-    → (HasBegun positions rollback c (suc q) → ⊥) → IsSpread limit old positions c rollback q nodes told made → IsSpread limit old positions c rollback (suc q) nodes told made
-skip_one {limit = limit} {old = old} {positions = positions} {c = c} {rollback = rollback} {q = q} {nodes = nodes} {told = told} within early h =
+skip_one : {limit : ℕ} {old : List Node} {positions : List ℕ} {cause : Cause} {rollback : Option Rollback} {q : ℕ} {nodes : List Node} {told : List (Option DeltaModel)} {made : Made} → q < length nodes
+    → (HasBegun positions rollback cause (suc q) → ⊥) → IsSpread limit old positions cause rollback q nodes told made → IsSpread limit old positions cause rollback (suc q) nodes told made
+skip_one {limit = limit} {old = old} {positions = positions} {cause = cause} {rollback = rollback} {q = q} {nodes = nodes} {told = told} within early h =
     let at = has_node nodes q within in
     let was = at.node in
     let t = turn_in was h at.there in
@@ -295,37 +294,37 @@ skip_one {limit = limit} {old = old} {positions = positions} {c = c} {rollback =
       set = record { there = at.there; is = sym (set_again nodes q was at.there); list = refl };
       tried = record {
         ok = IsStep.at_other (not_own was.list t.next.turn.placed) (not_source rollback early was.list t.next.turn.placed)
-            (record { same = refl; untold = on_inputs (λ i. slice_index_or told i None ≡ None) was.keeps (λ i d. h.told_to.quiet (λ b. early (begun_later positions rollback c q b)) i) });
+            (record { same = refl; untold = inl (on_inputs (λ i. slice_index_or told i None ≡ None) was.keeps (λ i d. h.told_to.quiet (λ b. early (begun_later positions rollback cause q b)) i)) });
         err = tt;
         stopped = λ most limited. tt;
         room = tt;
       };
     }) h
   where
-    not_own : (list : ℕ) → slice_index positions list ≡ q → list ≢ about c
+    not_own : (list : ℕ) → slice_index positions list ≡ q → list ≢ subject cause
     not_own list placed e = early (low (ap (slice_index positions) (sym e) ∙ placed))
       where
-        low : slice_index positions (about c) ≡ q → slice_index positions (start_at rollback c) < suc q
-        low at = omega (arith, at, not_before limit old positions c rollback h.begun)
+        low : slice_index positions (subject cause) ≡ q → slice_index positions (start_at rollback cause) < suc q
+        low at = omega (arith, at, not_before limit old positions cause rollback h.begun)
 
-    not_source : (o : Option Rollback) → (HasBegun positions o c (suc q) → ⊥) → (list : ℕ) → slice_index positions list ≡ q → ¬ IsSourceOf list o
+    not_source : (o : Option Rollback) → (HasBegun positions o cause (suc q) → ⊥) → (list : ℕ) → slice_index positions list ≡ q → ¬ IsSourceOf list o
     not_source None far list placed e = absurd e
     not_source (Some back) far list placed e = far (low (ap (slice_index positions) (sym e) ∙ placed))
       where
         low : slice_index positions back.source ≡ q → slice_index positions back.source < suc q
         low at = omega (arith, at)
 
-pub skip_to : {limit : ℕ} {old : List Node} {positions : List ℕ} {c : Command} {rollback : Option Rollback} {told : List (Option DeltaModel)} {made : Made} (q : ℕ) → q ≤ slice_index positions (start_at rollback c)
-    → slice_index positions (start_at rollback c) < length old
-    → IsSpread limit old positions c rollback 0 old told made → IsSpread limit old positions c rollback q old told made
+pub skip_to : {limit : ℕ} {old : List Node} {positions : List ℕ} {cause : Cause} {rollback : Option Rollback} {told : List (Option DeltaModel)} {made : Made} (q : ℕ) → q ≤ slice_index positions (start_at rollback cause)
+    → slice_index positions (start_at rollback cause) < length old
+    → IsSpread limit old positions cause rollback 0 old told made → IsSpread limit old positions cause rollback q old told made
 skip_to zero low within h = h
 skip_to (suc q) low within h = skip_one (omega (arith, low, within)) (λ later. omega (arith, later, low)) (skip_to q (omega (arith, low)) within h)
 
 -- a command that has come to the list where its wave begins
-pub begins : (limit : ℕ) (old : List Node) (positions : List ℕ) (c : Command) (rollback : Option Rollback) (told : List (Option DeltaModel)) (made : Made) → IsBegun limit old positions c rollback
+pub begins : (limit : ℕ) (old : List Node) (positions : List ℕ) (cause : Cause) (rollback : Option Rollback) (told : List (Option DeltaModel)) (made : Made) → IsBegun limit old positions cause rollback
     → told ≡ replicate (length positions) None → made ≡ []
-    → IsSpread limit old positions c rollback (slice_index positions (start_at rollback c)) old told made
-begins limit old positions c rollback told made begun told_is made_is =
-    skip_to (slice_index positions (start_at rollback c)) (omega arith)
-    (start_low limit old positions (start_at rollback c) begun.graph (start_within limit old positions c rollback begun))
-    (spread_begins limit old positions c rollback told made begun told_is made_is)
+    → IsSpread limit old positions cause rollback (slice_index positions (start_at rollback cause)) old told made
+begins limit old positions cause rollback told made begun told_is made_is =
+    skip_to (slice_index positions (start_at rollback cause)) (omega arith)
+    (start_low limit old positions (start_at rollback cause) begun.graph (start_within limit old positions cause rollback begun))
+    (spread_begins limit old positions cause rollback told made begun told_is made_is)

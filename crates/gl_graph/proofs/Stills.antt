@@ -4,78 +4,79 @@ use Rattle.std.specs.Prelude.{Option, Some, None, slice_index, slice_index_or}
 use Rattle.std.specs.List.{Contains}
 use Rattle.spec_basics.proofs.Numbers.{not_equal}
 use Rattle.spec_states.specs.Tree.{Tree}
-use Rattle.spec_states.specs.Delta.{no_change}
-use Rattle.spec_states.specs.Command.{Command}
+use Rattle.spec_states.specs.Delta.{Delta, no_change}
 use Rattle.gl_source.specs.Model.{DeltaModel}
-use Rattle.spec_states.specs.Plan.{origin as about}
 use Rattle.spec_states.specs.State.{State, inputs, own_at}
 use Rattle.spec_states.specs.Shown.{is_held, shown_of, shown}
-use Rattle.spec_states.specs.Wave.{command, beginning, is_at, kept_after, kept_later, wave, wave_deltas, delta_in}
-use Rattle.spec_states.specs.Step.{refusal, refused_by}
-use Rattle.spec_states.proofs.Views.{shown_local, shown_in, shown_is, wave_ordered, kept_after_inputs, kept_later_inputs}
-use Rattle.spec_states.proofs.Waves.{RollsBack, begin_of, told_as, delta_now}
+use Rattle.spec_states.specs.Wave.{is_at, kept_later, wave, wave_deltas, delta_in, Cause, begins, kept_by, subject}
+use Rattle.spec_states.proofs.Views.{shown_local, shown_in, shown_is, wave_ordered, kept_by_inputs, kept_later_inputs}
+use Rattle.spec_states.proofs.Waves.{begin_of, told_as, delta_now}
 use Rattle.spec_states.proofs.Quiet.{InputsUntold, quiet_told, quiet_kept, untold_shown}
 use Rattle.gl_graph.specs.declared.node.Node.{Node}
+use Rattle.gl_graph.specs.declared.keeps.Keeps.{Keeps}
+use Rattle.gl_graph.specs.declared.keeps.Keeps.TheVariants.{Source, Over, Composite, Held, Proxy}
 use Rattle.gl_graph.specs.declared.keeps.KeepsUndo.{KeepsUndo}
 use Rattle.gl_graph.specs.declared.turned.Turned.TheVariants.{Stays, Silent}
 use Rattle.gl_graph.specs.declared.rollback.Rollback.{Rollback}
-use Rattle.gl_graph.specs.Nodes.{own_of, state_of, shown_by, StandsFor}
+use Rattle.gl_graph.specs.Nodes.{own_of, state_of, shown_by, OnInput, StandsFor}
 use Rattle.gl_graph.specs.Rollbacks.{TakesBack, IsRollback, IsSourceOf, start_at}
 use Rattle.gl_graph.specs.Graph.{limit_of}
-use Rattle.gl_graph.specs.Spread.{delta_told, HasBegun, IsStep, IsQuietOwn, IsKeeping, IsLeft}
+use Rattle.gl_graph.specs.Spread.{delta_told, HasBegun, IsStep, IsQuietOwn, IsKeeping, IsCopy}
 use Rattle.gl_graph.proofs.Inputs.{inward, long_state, each_input, stands_local, later_local}
 use Rattle.gl_graph.proofs.WholeWaves.{taken_of, graph_inward}
-use Rattle.gl_graph.proofs.Rollbacks.{not_begun, back_of, level_held, level_input}
+use Rattle.gl_graph.proofs.Rollbacks.{begins_as, not_begun, IsRolled, back_of, level_held, level_input}
 use Rattle.gl_graph.proofs.Next.{IsTurn, long_wave, begun_or, begun_later, begins_next, still_told, told_late, input_told}
 use Rattle.gl_graph.proofs.Turns.{IsOn, IsStill, IsOnBy, turned, own_early, own_late, own_rest, own_keeps}
+use Rattle.gl_graph.specs.Causes.{begin_at, refusal_of, refused_of}
 
 -- ---- it keeps something else
 
-pub record IsQuiet (old : List Node) (positions : List ℕ) (c : Command) (rollback : Option Rollback) (q : ℕ) (nodes : List Node) (was now : Node) (undo : KeepsUndo) : Type 0 where
-  pub by : IsOnBy old positions c rollback q nodes was now undo
-  pub still : IsStill old positions c was
+pub record IsQuiet (old : List Node) (positions : List ℕ) (cause : Cause) (rollback : Option Rollback) (q : ℕ) (nodes : List Node) (was now : Node) (undo : KeepsUndo) : Type 0 where
+  pub by : IsOnBy old positions cause rollback q nodes was now undo
+  pub still : IsStill old positions cause was
 
 -- a list of which nothing is told in a wave shows what it did
-untold : {limit : ℕ} {old : List Node} {positions : List ℕ} {c : Command} {rollback : Option Rollback} {q : ℕ} {nodes : List Node} {told : List (Option DeltaModel)} {was : Node}
-    → IsTurn limit old positions c rollback q nodes told was → refusal (state_of old positions) c ≡ None
-    → delta_in (wave_deltas (state_of old positions) (command c)) was.list ≡ no_change (length (shown (state_of old positions) was.list)) → IsStill old positions c was
-untold {old = old} {positions = positions} {c = c} {was = was} t none delta =
+untold : {limit : ℕ} {old : List Node} {positions : List ℕ} {cause : Cause} {rollback : Option Rollback} {q : ℕ} {nodes : List Node} {told : List (Option DeltaModel)} {was : Node}
+    → IsTurn limit old positions cause rollback q nodes told was → refusal_of (state_of old positions) cause ≡ None
+    → delta_in (wave_deltas (state_of old positions) cause) was.list ≡ no_change (length (shown (state_of old positions) was.list)) → IsStill old positions cause was
+untold {old = old} {positions = positions} {cause = cause} {was = was} t none delta =
     let s : State = state_of old positions in
-    record { told = delta; same = untold_shown s (command c) was.list t.begun.graph.sound (taken_of s c t.begun.suits none) t.next.within delta }
+    record { told = delta; same = untold_shown s cause was.list t.begun.graph.sound (taken_of s cause t.begun.suits none) t.next.within delta }
 
 -- one that is held, and where no wave begins, tells nothing
-held_delta : {limit : ℕ} {old : List Node} {positions : List ℕ} {c : Command} {rollback : Option Rollback} {q : ℕ} {nodes : List Node} {told : List (Option DeltaModel)} {was : Node}
-    → IsTurn limit old positions c rollback q nodes told was → is_at (begin_of (state_of old positions) (command c)) was.list ≡ false → is_held (own_at (state_of old positions) was.list) ≡ true
-    → delta_in (wave_deltas (state_of old positions) (command c)) was.list ≡ no_change (length (shown (state_of old positions) was.list))
-held_delta {old = old} {positions = positions} {c = c} {was = was} t at held =
+held_delta : {limit : ℕ} {old : List Node} {positions : List ℕ} {cause : Cause} {rollback : Option Rollback} {q : ℕ} {nodes : List Node} {told : List (Option DeltaModel)} {was : Node}
+    → IsTurn limit old positions cause rollback q nodes told was → is_at (begin_of (state_of old positions) cause) was.list ≡ false → is_held (own_at (state_of old positions) was.list) ≡ true
+    → delta_in (wave_deltas (state_of old positions) cause) was.list ≡ no_change (length (shown (state_of old positions) was.list))
+held_delta {old = old} {positions = positions} {cause = cause} {was = was} t at held =
     let s : State = state_of old positions in
-    delta_now s (command c) t.begun.graph.sound was.list t.next.within false at
-    ∙ (ap (told_as s (command c) was.list false) held ∙ ap (λ xs. no_change (length xs)) (sym (shown_is s t.begun.graph.sound was.list t.next.within)))
+    delta_now s cause t.begun.graph.sound was.list t.next.within false at
+    ∙ (ap (told_as s cause was.list false) held ∙ ap (λ xs. no_change (length xs)) (sym (shown_is s t.begun.graph.sound was.list t.next.within)))
 
 -- no wave begins at it
-not_here : {limit : ℕ} {old : List Node} {positions : List ℕ} {c : Command} {rollback : Option Rollback} {q : ℕ} {nodes : List Node} {told : List (Option DeltaModel)} {was : Node}
-    → IsTurn limit old positions c rollback q nodes told was → was.list ≡ about c → beginning c was.list (own_of was.keeps) ≢ Some was.list
-    → is_at (begin_of (state_of old positions) (command c)) was.list ≡ false
-not_here {old = old} {positions = positions} {c = c} {was = was} t same elsewhere = by_begin (begin_of s (command c)) refl
+not_here : {limit : ℕ} {old : List Node} {positions : List ℕ} {cause : Cause} {rollback : Option Rollback} {q : ℕ} {nodes : List Node} {told : List (Option DeltaModel)} {was : Node}
+    → IsTurn limit old positions cause rollback q nodes told was → was.list ≡ subject cause → begin_at cause was.list (own_of was.keeps) ≢ Some was.list
+    → is_at (begin_of (state_of old positions) cause) was.list ≡ false
+not_here {old = old} {positions = positions} {cause = cause} {was = was} t same elsewhere = by_begin (begin_of s cause) refl
   where
     s : State
     s = state_of old positions
 
-    here : beginning c (about c) (own_at s (about c)) ≡ beginning c was.list (own_of was.keeps)
-    here = ap (beginning c (about c)) (ap (own_at s) (sym same) ∙ t.next.own) ∙ ap (λ l. beginning c l (own_of was.keeps)) (sym same)
+    here : begins cause (own_at s (subject cause)) ≡ begin_at cause was.list (own_of was.keeps)
+    here = begins_as cause (own_at s (subject cause))
+        ∙ (ap (begin_at cause (subject cause)) (ap (own_at s) (sym same) ∙ t.next.own) ∙ ap (λ l. begin_at cause l (own_of was.keeps)) (sym same))
 
-    by_begin : (o : Option ℕ) → begin_of s (command c) ≡ o → is_at (begin_of s (command c)) was.list ≡ false
+    by_begin : (o : Option ℕ) → begin_of s cause ≡ o → is_at (begin_of s cause) was.list ≡ false
     by_begin None e = ap (λ o. is_at o was.list) e
     by_begin (Some i) e = ap (λ o. is_at o was.list) e ∙ not_equal was.list i (λ f. elsewhere (sym here ∙ (e ∙ ap (λ (n : ℕ). Some n) (sym f))))
 
 -- the list that a command is about, where its wave begins at none
-own_quiet : {limit : ℕ} {old : List Node} {positions : List ℕ} {c : Command} {rollback : Option Rollback} {q : ℕ} {nodes : List Node} {told : List (Option DeltaModel)} {was now : Node} {undo : KeepsUndo}
-    → IsTurn limit old positions c rollback q nodes told was → was.list ≡ about c → IsQuietOwn (shown_by (take q nodes) positions) c was.list was.keeps now.keeps undo
-    → rollback ≡ None → IsQuiet old positions c rollback q nodes was now undo
-own_quiet {old = old} {positions = positions} {c = c} {rollback = rollback} {q = q} {nodes = nodes} {was = was} {undo = undo} t same h plain = record {
-  by = turned undo (kept_after c shows (own_of was.keeps)) t h.turned (own_keeps t same)
-      (kept_after_inputs c shows (own_of was.keeps)) none (own_late t same plain);
-  still = untold t none (quiet_told s (command c) was.list t.begun.graph.sound t.next.within (not_here t same h.elsewhere)
+own_quiet : {limit : ℕ} {old : List Node} {positions : List ℕ} {cause : Cause} {rollback : Option Rollback} {q : ℕ} {nodes : List Node} {told : List (Option DeltaModel)} {was now : Node} {undo : KeepsUndo}
+    → IsTurn limit old positions cause rollback q nodes told was → was.list ≡ subject cause → IsQuietOwn (shown_by (take q nodes) positions) cause was.list was.keeps now.keeps undo
+    → rollback ≡ None → IsQuiet old positions cause rollback q nodes was now undo
+own_quiet {old = old} {positions = positions} {cause = cause} {rollback = rollback} {q = q} {nodes = nodes} {was = was} {undo = undo} t same h plain = record {
+  by = turned undo (kept_by cause shows (own_of was.keeps)) t h.turned (own_keeps t same)
+      (kept_by_inputs cause shows (own_of was.keeps)) none (own_late t same plain);
+  still = untold t none (quiet_told s cause was.list t.begun.graph.sound t.next.within (not_here t same h.elsewhere)
       (λ i d. let e = subst (λ o. Contains (inputs o) i) t.next.own d in still_told t i e (t.to.quiet (own_early t same plain) i)));
 }
   where
@@ -85,17 +86,17 @@ own_quiet {old = old} {positions = positions} {c = c} {rollback = rollback} {q =
     shows : ℕ → List Tree
     shows = shown_by (take q nodes) positions
 
-    none : refusal s c ≡ None
-    none = ap (λ o. refused_by o c) (ap (own_at s) (sym same) ∙ t.next.own) ∙ h.inside
+    none : refusal_of s cause ≡ None
+    none = ap (λ o. refused_of o cause) (ap (own_at s) (sym same) ∙ t.next.own) ∙ h.inside
 
 -- the list that is rolled back, after its source
-rolled_quiet : {limit : ℕ} {old : List Node} {positions : List ℕ} {c : Command} {rollback : Option Rollback} {q : ℕ} {nodes : List Node} {told : List (Option DeltaModel)} {was now : Node} {undo : KeepsUndo} (back : Rollback)
-    → IsTurn limit old positions c rollback q nodes told was → was.list ≡ about c → IsQuietOwn (shown_by (take q nodes) positions) c was.list was.keeps now.keeps undo
-    → rollback ≡ Some back → IsQuiet old positions c rollback q nodes was now undo
-rolled_quiet {old = old} {positions = positions} {c = c} {rollback = rollback} {q = q} {nodes = nodes} {was = was} {undo = undo} back t same h is = record {
-  by = turned undo (kept_after c shows (own_of was.keeps)) t h.turned (own_keeps t same)
-      (kept_after_inputs c shows (own_of was.keeps)) takes.granted late;
-  still = untold t takes.granted (held_delta t (not_here t same h.elsewhere) (ap is_held (ap (own_at s) same) ∙ level_held (own_at s (about c)) back.source r.level r.levels r.is));
+rolled_quiet : {limit : ℕ} {old : List Node} {positions : List ℕ} {cause : Cause} {rollback : Option Rollback} {q : ℕ} {nodes : List Node} {told : List (Option DeltaModel)} {was now : Node} {undo : KeepsUndo} (back : Rollback)
+    → IsTurn limit old positions cause rollback q nodes told was → was.list ≡ subject cause → IsQuietOwn (shown_by (take q nodes) positions) cause was.list was.keeps now.keeps undo
+    → rollback ≡ Some back → IsQuiet old positions cause rollback q nodes was now undo
+rolled_quiet {old = old} {positions = positions} {cause = cause} {rollback = rollback} {q = q} {nodes = nodes} {was = was} {undo = undo} back t same h is = record {
+  by = turned undo (kept_by cause shows (own_of was.keeps)) t h.turned (own_keeps t same)
+      (kept_by_inputs cause shows (own_of was.keeps)) takes.granted late;
+  still = untold t takes.granted (held_delta t (not_here t same h.elsewhere) (ap is_held (ap (own_at s) same) ∙ level_held (own_at s (subject cause)) back.source r.level r.levels r.is));
 }
   where
     s : State
@@ -104,28 +105,28 @@ rolled_quiet {old = old} {positions = positions} {c = c} {rollback = rollback} {
     shows : ℕ → List Tree
     shows = shown_by (take q nodes) positions
 
-    takes : TakesBack s c back
-    takes = subst (IsRollback s c) is t.begun.is_rollback
+    takes : TakesBack s cause back
+    takes = subst (IsRollback s cause) is t.begun.is_rollback
 
-    r : RollsBack c (own_at s (about c)) back.source (shown s)
-    r = back_of s c back t.begun.suits takes
+    r : IsRolled (own_at s (subject cause)) back.source
+    r = back_of s cause back t.begun.suits takes
 
     low : slice_index positions back.source < q
-    low = t.next.low back.source (subst (λ o. Contains (inputs o) back.source) (ap (own_at s) (sym same) ∙ t.next.own) (level_input (own_at s (about c)) back.source r.level r.levels r.is))
+    low = t.next.low back.source (subst (λ o. Contains (inputs o) back.source) (ap (own_at s) (sym same) ∙ t.next.own) (level_input (own_at s (subject cause)) back.source r.level r.levels r.is))
 
-    late : HasBegun positions rollback c (suc q)
-    late = subst (λ o. HasBegun positions o c (suc q)) (sym is) (omega (arith, low))
+    late : HasBegun positions rollback cause (suc q)
+    late = subst (λ o. HasBegun positions o cause (suc q)) (sym is) (omega (arith, low))
 
 -- another one that is held
-other_quiet : {limit : ℕ} {old : List Node} {positions : List ℕ} {c : Command} {rollback : Option Rollback} {q : ℕ} {nodes : List Node} {told : List (Option DeltaModel)} {was now : Node} {undo : KeepsUndo}
-    → IsTurn limit old positions c rollback q nodes told was → was.list ≢ about c → ¬ IsSourceOf was.list rollback
-    → IsKeeping (shown_by (take q nodes) positions) told was.list was.keeps now.keeps undo → IsQuiet old positions c rollback q nodes was now undo
-other_quiet {old = old} {positions = positions} {c = c} {rollback = rollback} {q = q} {nodes = nodes} {told = told} {was = was} {undo = undo} t other apart h = record {
+other_quiet : {limit : ℕ} {old : List Node} {positions : List ℕ} {cause : Cause} {rollback : Option Rollback} {q : ℕ} {nodes : List Node} {told : List (Option DeltaModel)} {was now : Node} {undo : KeepsUndo}
+    → IsTurn limit old positions cause rollback q nodes told was → was.list ≢ subject cause → ¬ IsSourceOf was.list rollback
+    → IsKeeping (shown_by (take q nodes) positions) told was.list was.keeps now.keeps undo → IsQuiet old positions cause rollback q nodes was now undo
+other_quiet {old = old} {positions = positions} {cause = cause} {rollback = rollback} {q = q} {nodes = nodes} {told = told} {was = was} {undo = undo} t other apart h = record {
   by = turned undo (kept_later k (own_of was.keeps) (delta_told told shows)) t h.turned
-      (later_local k (own_of was.keeps) (delta_told told shows) (delta_in (wave_deltas s (command c))) h.held (λ i d. input_told t i d)
-      ∙ (ap (λ o. kept_later k o (delta_in (wave_deltas s (command c)))) (sym t.next.own) ∙ sym (own_rest s c k t.next.within other)))
-      (kept_later_inputs k (own_of was.keeps) (delta_told told shows)) none (begun_later positions rollback c q late);
-  still = untold t none (held_delta t (not_begun s c rollback k t.begun.is_rollback other apart) (ap is_held t.next.own ∙ h.held));
+      (later_local k (own_of was.keeps) (delta_told told shows) (delta_in (wave_deltas s cause)) h.held (λ i d. input_told t i d)
+      ∙ (ap (λ o. kept_later k o (delta_in (wave_deltas s cause))) (sym t.next.own) ∙ sym (own_rest s cause k t.next.within other)))
+      (kept_later_inputs k (own_of was.keeps) (delta_told told shows)) none (begun_later positions rollback cause q late);
+  still = untold t none (held_delta t (not_begun s cause rollback k t.begun.is_rollback other apart) (ap is_held t.next.own ∙ h.held));
 }
   where
     s : State
@@ -137,90 +138,162 @@ other_quiet {old = old} {positions = positions} {c = c} {rollback = rollback} {q
     shows : ℕ → List Tree
     shows = shown_by (take q nodes) positions
 
-    late : HasBegun positions rollback c q
+    late : HasBegun positions rollback cause q
     late = told_late t h.reached.input h.reached.d h.reached.told
 
-    none : refusal s c ≡ None
+    none : refusal_of s cause ≡ None
     none = t.are.inside late
 
-by_rollback : {limit : ℕ} {old : List Node} {positions : List ℕ} {c : Command} {rollback : Option Rollback} {q : ℕ} {nodes : List Node} {told : List (Option DeltaModel)} {was now : Node} {undo : KeepsUndo} (o : Option Rollback)
-    → IsTurn limit old positions c rollback q nodes told was → was.list ≡ about c → IsQuietOwn (shown_by (take q nodes) positions) c was.list was.keeps now.keeps undo
-    → rollback ≡ o → IsQuiet old positions c rollback q nodes was now undo
+by_rollback : {limit : ℕ} {old : List Node} {positions : List ℕ} {cause : Cause} {rollback : Option Rollback} {q : ℕ} {nodes : List Node} {told : List (Option DeltaModel)} {was now : Node} {undo : KeepsUndo} (o : Option Rollback)
+    → IsTurn limit old positions cause rollback q nodes told was → was.list ≡ subject cause → IsQuietOwn (shown_by (take q nodes) positions) cause was.list was.keeps now.keeps undo
+    → rollback ≡ o → IsQuiet old positions cause rollback q nodes was now undo
 by_rollback None t same h e = own_quiet t same h e
 by_rollback (Some back) t same h e = rolled_quiet back t same h e
 
-pub quiet_by : {limit : ℕ} {old : List Node} {positions : List ℕ} {c : Command} {rollback : Option Rollback} {q : ℕ} {nodes : List Node} {told : List (Option DeltaModel)} {was now : Node} {undo : KeepsUndo}
-    → IsTurn limit old positions c rollback q nodes told was → IsStep rollback (shown_by (take q nodes) positions) c told was.list was.keeps now.keeps (Silent undo)
-    → IsQuiet old positions c rollback q nodes was now undo
+pub quiet_by : {limit : ℕ} {old : List Node} {positions : List ℕ} {cause : Cause} {rollback : Option Rollback} {q : ℕ} {nodes : List Node} {told : List (Option DeltaModel)} {was now : Node} {undo : KeepsUndo}
+    → IsTurn limit old positions cause rollback q nodes told was → IsStep rollback (shown_by (take q nodes) positions) cause told was.list was.keeps now.keeps (Silent undo)
+    → IsQuiet old positions cause rollback q nodes was now undo
 quiet_by t (IsStep.at_source back is same h) = absurd h
 quiet_by {rollback = rollback} t (IsStep.at_own same h) = by_rollback rollback t same h refl
 quiet_by t (IsStep.at_other other apart h) = other_quiet t other apart h
 
 -- ---- it is as it was
 
-pub record IsAsItWas (old : List Node) (positions : List ℕ) (c : Command) (rollback : Option Rollback) (q : ℕ) (nodes : List Node) (was now : Node) : Type 0 where
-  pub on : IsOn old positions c rollback q nodes was now
-  pub still : IsStill old positions c was
+pub record IsAsItWas (old : List Node) (positions : List ℕ) (cause : Cause) (rollback : Option Rollback) (q : ℕ) (nodes : List Node) (was now : Node) : Type 0 where
+  pub on : IsOn old positions cause rollback q nodes was now
+  pub still : IsStill old positions cause was
   pub keeps_is : now.keeps ≡ was.keeps
 
-left : {limit : ℕ} {old : List Node} {positions : List ℕ} {c : Command} {rollback : Option Rollback} {q : ℕ} {nodes : List Node} {told : List (Option DeltaModel)} {was now : Node}
-    → IsTurn limit old positions c rollback q nodes told was → was.list ≢ about c → ¬ IsSourceOf was.list rollback → IsLeft told was.keeps now.keeps
-    → IsAsItWas old positions c rollback q nodes was now
-left {limit = limit} {old = old} {positions = positions} {c = c} {rollback = rollback} {q = q} {nodes = nodes} {told = told} {was = was} {now = now} t other apart h = record {
+-- the wave doesn't begin at it
+starts_elsewhere : (o : Option Rollback) (cause : Cause) (list : ℕ) → list ≢ subject cause → ¬ IsSourceOf list o → list ≢ start_at o cause
+starts_elsewhere None cause list other free e = other e
+starts_elsewhere (Some back) cause list other free e = free e
+
+left : {limit : ℕ} {old : List Node} {positions : List ℕ} {cause : Cause} {rollback : Option Rollback} {q : ℕ} {nodes : List Node} {told : List (Option DeltaModel)} {was now : Node}
+    → IsTurn limit old positions cause rollback q nodes told was → was.list ≢ subject cause → ¬ IsSourceOf was.list rollback → now.keeps ≡ was.keeps
+    → OnInput (λ i. slice_index_or told i None ≡ None) was.keeps
+    → IsAsItWas old positions cause rollback q nodes was now
+left {limit = limit} {old = old} {positions = positions} {cause = cause} {rollback = rollback} {q = q} {nodes = nodes} {told = told} {was = was} {now = now} t other apart same silent = record {
   on = record {
-    inputs_are = ap (λ k. inputs (own_of k)) h.same;
-    limit = ap limit_of h.same;
-    own = ap own_of h.same ∙ (sym t.next.own ∙ sym own);
-    stands = subst (λ k. StandsFor k (shown_by (take q nodes) positions)) (sym h.same)
+    inputs_are = ap (λ k. inputs (own_of k)) same;
+    limit = ap limit_of same;
+    own = ap own_of same ∙ (sym t.next.own ∙ sym own);
+    stands = subst (λ k. StandsFor k (shown_by (take q nodes) positions)) (sym same)
         (stands_local was.keeps (shown s) (shown_by (take q nodes) positions) t.next.turn.among (λ i d. sym (t.next.shows i d ∙ stays i d)) t.next.stands);
-    inside = λ later. by_begun later (begun_or positions rollback c q);
+    inside = λ later. by_begun later (begun_or positions rollback cause q);
   };
   still = record {
-    told = quiet_told s (command c) was.list t.begun.graph.sound t.next.within at quiet;
-    same = shown_in w (wave_ordered s (command c) t.begun.graph.sound.ordered) (graph_inward limit old positions c t.begun.graph t.begun.suits) was.list after
+    told = quiet_told s cause was.list t.begun.graph.sound t.next.within at quiet;
+    same = shown_in w (wave_ordered s cause t.begun.graph.sound.ordered) (graph_inward limit old positions cause t.begun.graph t.begun.suits) was.list after
         ∙ (ap (λ o. shown_of o (shown w)) (own ∙ t.next.own)
         ∙ (shown_local (own_of was.keeps) (inward was.keeps t.next.turn.among) (shown w) (shown s) stays
         ∙ (ap (λ o. shown_of o (shown s)) (sym t.next.own) ∙ sym (shown_is s t.begun.graph.sound was.list t.next.within))));
   };
-  keeps_is = h.same;
+  keeps_is = same;
 }
   where
     s : State
     s = state_of old positions
 
     w : State
-    w = wave s (command c)
+    w = wave s cause
 
     after : was.list < length w
-    after = omega (arith, t.next.within, long_wave old positions c, long_state old positions)
+    after = omega (arith, t.next.within, long_wave old positions cause, long_state old positions)
 
     none : (i : ℕ) → Contains (inputs (own_of was.keeps)) i → slice_index_or told i None ≡ None
-    none i d = each_input (λ j. slice_index_or told j None ≡ None) was.keeps i h.untold d
+    none i d = each_input (λ j. slice_index_or told j None ≡ None) was.keeps i silent d
 
     stays : (i : ℕ) → Contains (inputs (own_of was.keeps)) i → shown w i ≡ shown s i
     stays i d = t.to.same i (t.next.below i d) (t.next.low i d) (none i d)
 
-    quiet : InputsUntold (own_at s was.list) (shown s) (delta_in (wave_deltas s (command c)))
+    quiet : InputsUntold (own_at s was.list) (shown s) (delta_in (wave_deltas s cause))
     quiet i d = let e = subst (λ o. Contains (inputs o) i) t.next.own d in still_told t i e (none i e)
 
-    at : is_at (begin_of s (command c)) was.list ≡ false
-    at = not_begun s c rollback was.list t.begun.is_rollback other apart
+    at : is_at (begin_of s cause) was.list ≡ false
+    at = not_begun s cause rollback was.list t.begun.is_rollback other apart
 
     own : own_at w was.list ≡ own_at s was.list
-    own = quiet_kept s (command c) was.list t.begun.graph.sound t.next.within (not_equal was.list (about c) other) at quiet
+    own = quiet_kept s cause was.list t.begun.graph.sound t.next.within (not_equal was.list (subject cause) other) at quiet
 
-    -- the wave doesn't begin at it
-    starts : (o : Option Rollback) → ¬ IsSourceOf was.list o → was.list ≢ start_at o c
-    starts None free e = other e
-    starts (Some back) free e = free e
-
-    by_begun : HasBegun positions rollback c (suc q) → HasBegun positions rollback c q ⊎ (HasBegun positions rollback c q → ⊥) → refusal s c ≡ None
+    by_begun : HasBegun positions rollback cause (suc q) → HasBegun positions rollback cause q ⊎ (HasBegun positions rollback cause q → ⊥) → refusal_of s cause ≡ None
     by_begun later (inl begun) = t.are.inside begun
-    by_begun later (inr early) = absurd (starts rollback apart (sym (begins_next t later early)))
+    by_begun later (inr early) = absurd (starts_elsewhere rollback cause was.list other apart (sym (begins_next t later early)))
 
-pub as_it_was : {limit : ℕ} {old : List Node} {positions : List ℕ} {c : Command} {rollback : Option Rollback} {q : ℕ} {nodes : List Node} {told : List (Option DeltaModel)} {was now : Node}
-    → IsTurn limit old positions c rollback q nodes told was → IsStep rollback (shown_by (take q nodes) positions) c told was.list was.keeps now.keeps Stays
-    → IsAsItWas old positions c rollback q nodes was now
+-- a proxy stays, whatever its input tells
+copy_held : (keeps : Keeps) → IsCopy keeps → is_held (own_of keeps) ≡ true
+copy_held (Proxy input p) copy = refl
+copy_held (Source k) copy = absurd copy
+copy_held (Over input d) copy = absurd copy
+copy_held (Composite needed k) copy = absurd copy
+copy_held (Held input h) copy = absurd copy
+
+copy_later : (list : ℕ) (keeps : Keeps) (delta : ℕ → Delta) → IsCopy keeps → kept_later list (own_of keeps) delta ≡ own_of keeps
+copy_later list (Proxy input p) delta copy = refl
+copy_later list (Source k) delta copy = absurd copy
+copy_later list (Over input d) delta copy = absurd copy
+copy_later list (Composite needed k) delta copy = absurd copy
+copy_later list (Held input h) delta copy = absurd copy
+
+copy_shows : (keeps : Keeps) (f g : ℕ → List Tree) → IsCopy keeps → shown_of (own_of keeps) f ≡ shown_of (own_of keeps) g
+copy_shows (Proxy input p) f g copy = refl
+copy_shows (Source k) f g copy = absurd copy
+copy_shows (Over input d) f g copy = absurd copy
+copy_shows (Composite needed k) f g copy = absurd copy
+copy_shows (Held input h) f g copy = absurd copy
+
+copy_stands : (keeps : Keeps) (f : ℕ → List Tree) → IsCopy keeps → StandsFor keeps f
+copy_stands (Proxy input p) f copy = tt
+copy_stands (Source k) f copy = absurd copy
+copy_stands (Over input d) f copy = absurd copy
+copy_stands (Composite needed k) f copy = absurd copy
+copy_stands (Held input h) f copy = absurd copy
+
+copied : {limit : ℕ} {old : List Node} {positions : List ℕ} {cause : Cause} {rollback : Option Rollback} {q : ℕ} {nodes : List Node} {told : List (Option DeltaModel)} {was now : Node}
+    → IsTurn limit old positions cause rollback q nodes told was → was.list ≢ subject cause → ¬ IsSourceOf was.list rollback → now.keeps ≡ was.keeps → IsCopy was.keeps
+    → IsAsItWas old positions cause rollback q nodes was now
+copied {limit = limit} {old = old} {positions = positions} {cause = cause} {rollback = rollback} {q = q} {nodes = nodes} {told = told} {was = was} {now = now} t other apart same copy = record {
+  on = record {
+    inputs_are = ap (λ k. inputs (own_of k)) same;
+    limit = ap limit_of same;
+    own = ap own_of same ∙ (sym t.next.own ∙ sym own);
+    stands = subst (λ k. StandsFor k (shown_by (take q nodes) positions)) (sym same) (copy_stands was.keeps (shown_by (take q nodes) positions) copy);
+    inside = λ later. by_begun later (begun_or positions rollback cause q);
+  };
+  still = record {
+    told = held_delta t (not_begun s cause rollback was.list t.begun.is_rollback other apart) (ap is_held t.next.own ∙ copy_held was.keeps copy);
+    same = shown_in w (wave_ordered s cause t.begun.graph.sound.ordered) (graph_inward limit old positions cause t.begun.graph t.begun.suits) was.list after
+        ∙ (ap (λ o. shown_of o (shown w)) (own ∙ t.next.own)
+        ∙ (copy_shows was.keeps (shown w) (shown s) copy
+        ∙ (ap (λ o. shown_of o (shown s)) (sym t.next.own) ∙ sym (shown_is s t.begun.graph.sound was.list t.next.within))));
+  };
+  keeps_is = same;
+}
+  where
+    s : State
+    s = state_of old positions
+
+    w : State
+    w = wave s cause
+
+    after : was.list < length w
+    after = omega (arith, t.next.within, long_wave old positions cause, long_state old positions)
+
+    own : own_at w was.list ≡ own_at s was.list
+    own = own_rest s cause was.list t.next.within other
+        ∙ (ap (λ o. kept_later was.list o (delta_in (wave_deltas s cause))) t.next.own
+        ∙ (copy_later was.list was.keeps (delta_in (wave_deltas s cause)) copy ∙ sym t.next.own))
+
+    by_begun : HasBegun positions rollback cause (suc q) → HasBegun positions rollback cause q ⊎ (HasBegun positions rollback cause q → ⊥) → refusal_of s cause ≡ None
+    by_begun later (inl begun) = t.are.inside begun
+    by_begun later (inr early) = absurd (starts_elsewhere rollback cause was.list other apart (sym (begins_next t later early)))
+
+pub as_it_was : {limit : ℕ} {old : List Node} {positions : List ℕ} {cause : Cause} {rollback : Option Rollback} {q : ℕ} {nodes : List Node} {told : List (Option DeltaModel)} {was now : Node}
+    → IsTurn limit old positions cause rollback q nodes told was → IsStep rollback (shown_by (take q nodes) positions) cause told was.list was.keeps now.keeps Stays
+    → IsAsItWas old positions cause rollback q nodes was now
 as_it_was t (IsStep.at_source back is same h) = absurd h
 as_it_was t (IsStep.at_own same h) = absurd h
-as_it_was t (IsStep.at_other other apart h) = left t other apart h
+as_it_was t (IsStep.at_other other apart h) = elim h.untold [
+  | inl untold ↦ left t other apart h.same untold
+  | inr copy ↦ copied t other apart h.same copy
+]

@@ -7,11 +7,10 @@ use Rattle.spec_states.specs.Delta.{no_change}
 use Rattle.spec_states.specs.Leads.{IsDelta}
 use Rattle.spec_states.proofs.DeltaLeads.{length_from}
 use Rattle.spec_states.proofs.Lengths.{old_len-identity}
-use Rattle.spec_states.specs.Command.{Command}
 use Rattle.gl_source.specs.Model.{DeltaModel}
 use Rattle.spec_states.specs.State.{State}
 use Rattle.spec_states.specs.Shown.{shown}
-use Rattle.spec_states.specs.Wave.{command, wave, wave_deltas, delta_in}
+use Rattle.spec_states.specs.Wave.{wave, wave_deltas, delta_in, Cause}
 use Rattle.spec_states.proofs.Views.{length-table_of}
 use Rattle.gl_graph.specs.declared.node.Node.{Node}
 use Rattle.gl_graph.specs.declared.keeps.KeepsUndo.{KeepsUndo}
@@ -39,14 +38,14 @@ put_there (x ∷ told) (suc k) zero v h = refl
 put_there (x ∷ told) (suc k) (suc list) v h = put_there told k list v (λ e. h (ap suc e))
 
 -- nothing is told of a list that doesn't change
-pub told_still : {limit : ℕ} {old : List Node} {positions : List ℕ} {c : Command} {rollback : Option Rollback} {q : ℕ} {nodes : List Node} {told : List (Option DeltaModel)} {was : Node}
-    → IsTurn limit old positions c rollback q nodes told was → IsStill old positions c was → AreToldTo (state_of old positions) positions c rollback (suc q) told
-told_still {old = old} {positions = positions} {c = c} {rollback = rollback} {q = q} {told = told} {was = was} t still = record {
+pub told_still : {limit : ℕ} {old : List Node} {positions : List ℕ} {cause : Cause} {rollback : Option Rollback} {q : ℕ} {nodes : List Node} {told : List (Option DeltaModel)} {was : Node}
+    → IsTurn limit old positions cause rollback q nodes told was → IsStill old positions cause was → AreToldTo (state_of old positions) positions cause rollback (suc q) told
+told_still {old = old} {positions = positions} {cause = cause} {rollback = rollback} {q = q} {told = told} {was = was} t still = record {
   long = t.to.long;
   each = λ list within low. by_each list within low (ltb (slice_index positions list) q) refl;
   same = λ list within low none. by_same list within low none (ltb (slice_index positions list) q) refl;
   others = λ list within high. t.to.others list within (omega (arith, high));
-  quiet = λ early. t.to.quiet (λ h. early (begun_later positions rollback c q h));
+  quiet = λ early. t.to.quiet (λ h. early (begun_later positions rollback cause q h));
 }
   where
     s : State
@@ -56,30 +55,30 @@ told_still {old = old} {positions = positions} {c = c} {rollback = rollback} {q 
     is_next list within low high = the_next t list within (omega (arith, low, high))
 
     by_each : (list : ℕ) → list < length positions → slice_index positions list < suc q → (t : Bool) → ltb (slice_index positions list) q ≡ t
-        → IsToldOf (length (shown s list)) (delta_in (wave_deltas s (command c)) list) (slice_index_or told list None)
+        → IsToldOf (length (shown s list)) (delta_in (wave_deltas s cause) list) (slice_index_or told list None)
     by_each list within low true e = t.to.each list within (ltb-true (slice_index positions list) q e)
     by_each list within low false e =
         let high : q ≤ slice_index positions list = ltb-false (slice_index positions list) q e in
         let none : slice_index_or told list None ≡ None = t.to.others list within high in
-        subst (IsToldOf (length (shown s list)) (delta_in (wave_deltas s (command c)) list)) (sym none)
-        (subst (λ l. delta_in (wave_deltas s (command c)) l ≡ no_change (length (shown s l))) (sym (is_next list within low high)) still.told)
+        subst (IsToldOf (length (shown s list)) (delta_in (wave_deltas s cause) list)) (sym none)
+        (subst (λ l. delta_in (wave_deltas s cause) l ≡ no_change (length (shown s l))) (sym (is_next list within low high)) still.told)
 
     by_same : (list : ℕ) → list < length positions → slice_index positions list < suc q → slice_index_or told list None ≡ None → (t : Bool) → ltb (slice_index positions list) q ≡ t
-        → shown (wave s (command c)) list ≡ shown s list
+        → shown (wave s cause) list ≡ shown s list
     by_same list within low none true e = t.to.same list within (ltb-true (slice_index positions list) q e) none
     by_same list within low none false e =
-        subst (λ l. shown (wave s (command c)) l ≡ shown s l) (sym (is_next list within low (ltb-false (slice_index positions list) q e))) still.same
+        subst (λ l. shown (wave s cause) l ≡ shown s l) (sym (is_next list within low (ltb-false (slice_index positions list) q e))) still.same
 
 -- its delta is put there unless it is the no_change
-pub told_put : {limit : ℕ} {old : List Node} {positions : List ℕ} {c : Command} {rollback : Option Rollback} {q : ℕ} {nodes : List Node} {told : List (Option DeltaModel)} {was now : Node} {d : DeltaModel} {undo : KeepsUndo} (after : List (Option DeltaModel))
-    → IsTurn limit old positions c rollback q nodes told was → IsTold old positions c rollback q nodes was now d undo → IsPut was.list d told after → AreToldTo (state_of old positions) positions c rollback (suc q) after
-told_put {limit = limit} {old = old} {positions = positions} {c = c} {rollback = rollback} {q = q} {told = told} {was = was} {d = d} after t on put = elim put [
+pub told_put : {limit : ℕ} {old : List Node} {positions : List ℕ} {cause : Cause} {rollback : Option Rollback} {q : ℕ} {nodes : List Node} {told : List (Option DeltaModel)} {was now : Node} {d : DeltaModel} {undo : KeepsUndo} (after : List (Option DeltaModel))
+    → IsTurn limit old positions cause rollback q nodes told was → IsTold old positions cause rollback q nodes was now d undo → IsPut was.list d told after → AreToldTo (state_of old positions) positions cause rollback (suc q) after
+told_put {limit = limit} {old = old} {positions = positions} {cause = cause} {rollback = rollback} {q = q} {told = told} {was = was} {d = d} after t on put = elim put [
   | inl h ↦
-      let pieces : delta_in (wave_deltas s (command c)) l ≡ no_change (length (shown s l)) =
-      sym on.told ∙ (h.0 ∙ ap no_change (ap old_len on.told ∙ sym (length_from (delta_in (wave_deltas s (command c)) l) (shown s l) lead.starts))) in
-      let stays : shown (wave s (command c)) l ≡ shown s l = none_same (length (shown s l)) (shown s l) (shown (wave s (command c)) l) (subst (λ ps. IsDelta ps (shown s l) (shown (wave s (command c)) l)) pieces lead) in
-      subst (AreToldTo s positions c rollback (suc q)) (sym h.1) (told_still t (record { told = pieces; same = stays }))
-  | inr h ↦ subst (AreToldTo s positions c rollback (suc q)) (sym h.1) (record {
+      let pieces : delta_in (wave_deltas s cause) l ≡ no_change (length (shown s l)) =
+      sym on.told ∙ (h.0 ∙ ap no_change (ap old_len on.told ∙ sym (length_from (delta_in (wave_deltas s cause) l) (shown s l) lead.starts))) in
+      let stays : shown (wave s cause) l ≡ shown s l = none_same (length (shown s l)) (shown s l) (shown (wave s cause) l) (subst (λ ps. IsDelta ps (shown s l) (shown (wave s cause) l)) pieces lead) in
+      subst (AreToldTo s positions cause rollback (suc q)) (sym h.1) (told_still t (record { told = pieces; same = stays }))
+  | inr h ↦ subst (AreToldTo s positions cause rollback (suc q)) (sym h.1) (record {
     long = set_long told l (Some d) ∙ t.to.long;
     each = λ list within low. by_each h.0 list within low (ltb (slice_index positions list) q) refl;
     same = λ list within low none. by_same list within low none (ltb (slice_index positions list) q) refl;
@@ -94,8 +93,8 @@ told_put {limit = limit} {old = old} {positions = positions} {c = c} {rollback =
     l : ℕ
     l = was.list
 
-    lead : IsDelta (delta_in (wave_deltas s (command c)) l) (shown s l) (shown (wave s (command c)) l)
-    lead = (graph_leads limit old positions c t.begun.graph t.begun.suits on.by.none).each l (omega (arith, t.next.within, length-table_of s))
+    lead : IsDelta (delta_in (wave_deltas s cause) l) (shown s l) (shown (wave s cause) l)
+    lead = (graph_leads limit old positions cause t.begun.graph t.begun.suits on.by.none).each l (omega (arith, t.next.within, length-table_of s))
 
     here : slice_index_or (slice_set told l (Some d)) l None ≡ Some d
     here = put_here told l (Some d) (omega (arith, t.next.within, t.to.long, long_state old positions))
@@ -110,20 +109,20 @@ told_put {limit = limit} {old = old} {positions = positions} {c = c} {rollback =
     changes other e = other (e ∙ ap no_change (sym (old_len-identity (length (shown s l))) ∙ ap old_len (sym e)))
 
     by_each : d.pieces ≢ no_change (old_len d.pieces) → (list : ℕ) → list < length positions → slice_index positions list < suc q → (t : Bool) → ltb (slice_index positions list) q ≡ t
-        → IsToldOf (length (shown s list)) (delta_in (wave_deltas s (command c)) list) (slice_index_or (slice_set told l (Some d)) list None)
+        → IsToldOf (length (shown s list)) (delta_in (wave_deltas s cause) list) (slice_index_or (slice_set told l (Some d)) list None)
     by_each other list within low true e =
         let less : slice_index positions list < q = ltb-true (slice_index positions list) q e in
-        subst (IsToldOf (length (shown s list)) (delta_in (wave_deltas s (command c)) list)) (sym (put_there told l list (Some d) (λ f. apart list f (λ g. omega (arith, less, g)))))
+        subst (IsToldOf (length (shown s list)) (delta_in (wave_deltas s cause) list)) (sym (put_there told l list (Some d) (λ f. apart list f (λ g. omega (arith, less, g)))))
         (t.to.each list within less)
     by_each other list within low false e =
-        subst (λ k. IsToldOf (length (shown s k)) (delta_in (wave_deltas s (command c)) k) (slice_index_or (slice_set told l (Some d)) k None)) (sym (is_next list within low (ltb-false (slice_index positions list) q e)))
-        (subst (IsToldOf (length (shown s l)) (delta_in (wave_deltas s (command c)) l)) (sym here) (on.told, changes other))
+        subst (λ k. IsToldOf (length (shown s k)) (delta_in (wave_deltas s cause) k) (slice_index_or (slice_set told l (Some d)) k None)) (sym (is_next list within low (ltb-false (slice_index positions list) q e)))
+        (subst (IsToldOf (length (shown s l)) (delta_in (wave_deltas s cause) l)) (sym here) (on.told, changes other))
 
     nothing : slice_index_or (slice_set told l (Some d)) l None ≡ None → ⊥
     nothing e = let both : Some d ≡ None = sym here ∙ e in absurd cc
 
     by_same : (list : ℕ) → list < length positions → slice_index positions list < suc q → slice_index_or (slice_set told l (Some d)) list None ≡ None → (t : Bool) → ltb (slice_index positions list) q ≡ t
-        → shown (wave s (command c)) list ≡ shown s list
+        → shown (wave s cause) list ≡ shown s list
     by_same list within low none true e =
         let less : slice_index positions list < q = ltb-true (slice_index positions list) q e in
         t.to.same list within less (sym (put_there told l list (Some d) (λ f. apart list f (λ g. omega (arith, less, g)))) ∙ none)

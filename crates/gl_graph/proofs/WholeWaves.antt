@@ -1,7 +1,6 @@
 -- What a command comes to as a whole: where its wave begins, that it leads, and what it leaves.
 use Rattle.std.proofs.Common.{◌≡◌, ℕ, List, [], ◌∷◌, refl}
 use Rattle.std.specs.Prelude.{⊤, Option, Some, None}
-use Rattle.std.specs.Option.{option_or}
 use Rattle.spec_states.specs.Tree.{Tree}
 use Rattle.spec_states.specs.View.{View, filter, sorted, unique, grouping, range, function, collection, Parameter}
 use Rattle.spec_states.specs.Command.{Command}
@@ -9,14 +8,15 @@ use Rattle.spec_states.specs.Command.TheVariants as c
 use Rattle.spec_states.specs.Plan.{origin as about}
 use Rattle.spec_states.specs.State.{Own, State, source, over, composite, transaction, freezable, proxy, own_at}
 use Rattle.spec_states.specs.Shown.{table_of}
-use Rattle.spec_states.specs.Wave.{command, beginning, parameter_of, kept_after, wave, wave_deltas}
-use Rattle.spec_states.specs.Step.{refusal, refused_by, too_long, unmoved}
+use Rattle.spec_states.specs.Wave.{Cause, command, pump, subject, beginning, parameter_of, kept_after, kept_by, wave, wave_deltas}
+use Rattle.spec_states.specs.Step.{refused_by, unmoved}
 use Rattle.spec_states.specs.Laws.{IsSound, Lead, MayAttach, MayTake, OfTransaction, OfFreezable}
-use Rattle.spec_states.proofs.Views.{IsInward, sound_inward, wave_inward}
+use Rattle.spec_states.proofs.Views.{MayAttachBy, IsInward, sound_inward, wave_inward}
 use Rattle.spec_states.proofs.Waves.{IsTaken, wave_leads_by, wave_sound_by}
 use Rattle.gl_graph.specs.declared.node.Node.{Node}
 use Rattle.gl_graph.specs.Nodes.{state_of}
 use Rattle.gl_graph.specs.Commands.{Gives, IsOfLevels, IsOfFreezing, IsNoRollback, Suits}
+use Rattle.gl_graph.specs.Causes.{SuitsCause, IsPlain, refusal_of, unmoved_of}
 use Rattle.gl_graph.specs.Graph.{IsGraph}
 
 -- a command that suits a list over one input gives it a parameter
@@ -71,14 +71,18 @@ begins_here (c.Commit list) number i own h e = commit_here number list i own e
 begins_here other number i own h e = some_is number i e
 
 -- what a rollback leaves doesn't go by what others show
-pub kept_rolled : (of : Command) (own : Own) (f g : ℕ → List Tree) → ¬ IsNoRollback of → kept_after of f own ≡ kept_after of g own
-kept_rolled (c.Rollback list) (source contents) f g h = refl
-kept_rolled (c.Rollback list) (over input view) f g h = refl
-kept_rolled (c.Rollback list) (composite needed members) f g h = refl
-kept_rolled (c.Rollback list) (transaction input levels) f g h = refl
-kept_rolled (c.Rollback list) (freezable input since) f g h = refl
-kept_rolled (c.Rollback list) (proxy input kept queue) f g h = refl
-kept_rolled other own f g h = absurd (h tt)
+rolled_command : (of : Command) (own : Own) (f g : ℕ → List Tree) → ¬ IsNoRollback of → kept_after of f own ≡ kept_after of g own
+rolled_command (c.Rollback list) (source contents) f g h = refl
+rolled_command (c.Rollback list) (over input view) f g h = refl
+rolled_command (c.Rollback list) (composite needed members) f g h = refl
+rolled_command (c.Rollback list) (transaction input levels) f g h = refl
+rolled_command (c.Rollback list) (freezable input since) f g h = refl
+rolled_command (c.Rollback list) (proxy input kept queue) f g h = refl
+rolled_command other own f g h = absurd (h tt)
+
+pub kept_rolled : (cause : Cause) (own : Own) (f g : ℕ → List Tree) → ¬ IsPlain cause → kept_by cause f own ≡ kept_by cause g own
+kept_rolled (command c) own f g h = rolled_command c own f g h
+kept_rolled (pump list) own f g h = absurd (h tt)
 
 -- a command that suits a list makes a wave, or is refused for one of two reasons
 never_shown : (list : ℕ) (own : Own) → Suits (c.Show list) own → ⊥
@@ -89,7 +93,7 @@ never_shown list (transaction input levels) h = h
 never_shown list (freezable input since) h = h
 never_shown list (proxy input kept queue) h = h
 
-pub unmoved_is : (limit : ℕ) (s : State) (c : Command) (own : Own) → Suits c own → unmoved limit s c ≡ option_or (refusal s c) (too_long limit (wave s (command c)))
+pub unmoved_is : (limit : ℕ) (s : State) (c : Command) (own : Own) → Suits c own → unmoved limit s c ≡ unmoved_of limit s (command c)
 unmoved_is limit s (c.Show list) own h = absurd (never_shown list own h)
 unmoved_is limit s other own h = refl
 
@@ -122,25 +126,30 @@ may_take of (transaction input levels) h = of_levels of h
 may_take of (freezable input since) h = of_freezing of h
 may_take of (proxy input kept queue) h = absurd h
 
-pub taken_of : (s : State) (c : Command) → Suits c (own_at s (about c)) → refusal s c ≡ None → IsTaken s (command c)
-taken_of s c suits none = record {
+pub taken_of : (s : State) (cause : Cause) → SuitsCause cause (own_at s (subject cause)) → refusal_of s cause ≡ None → IsTaken s cause
+taken_of s (command c) suits none = record {
   granted = none;
   attaches = may_attach c (own_at s (about c)) suits;
   suits = may_take c (own_at s (about c)) suits;
 }
+taken_of s (pump list) suits none = tt
 
 -- the wave leads, and leaves a state as plans have it
-pub graph_leads : (limit : ℕ) (nodes : List Node) (positions : List ℕ) (c : Command) → IsGraph limit nodes positions → Suits c (own_at (state_of nodes positions) (about c))
-    → refusal (state_of nodes positions) c ≡ None
-    → Lead (wave_deltas (state_of nodes positions) (command c)) (table_of (state_of nodes positions)) (table_of (wave (state_of nodes positions) (command c)))
-graph_leads limit nodes positions c graph suits none = wave_leads_by (state_of nodes positions) (command c) graph.sound (taken_of (state_of nodes positions) c suits none)
+pub graph_leads : (limit : ℕ) (nodes : List Node) (positions : List ℕ) (cause : Cause) → IsGraph limit nodes positions → SuitsCause cause (own_at (state_of nodes positions) (subject cause))
+    → refusal_of (state_of nodes positions) cause ≡ None
+    → Lead (wave_deltas (state_of nodes positions) cause) (table_of (state_of nodes positions)) (table_of (wave (state_of nodes positions) cause))
+graph_leads limit nodes positions cause graph suits none = wave_leads_by (state_of nodes positions) cause graph.sound (taken_of (state_of nodes positions) cause suits none)
 
-pub graph_sound : (limit : ℕ) (nodes : List Node) (positions : List ℕ) (c : Command) → IsGraph limit nodes positions → Suits c (own_at (state_of nodes positions) (about c))
-    → refusal (state_of nodes positions) c ≡ None → IsSound (wave (state_of nodes positions) (command c))
-graph_sound limit nodes positions c graph suits none = wave_sound_by (state_of nodes positions) (command c) graph.sound (taken_of (state_of nodes positions) c suits none)
+pub graph_sound : (limit : ℕ) (nodes : List Node) (positions : List ℕ) (cause : Cause) → IsGraph limit nodes positions → SuitsCause cause (own_at (state_of nodes positions) (subject cause))
+    → refusal_of (state_of nodes positions) cause ≡ None → IsSound (wave (state_of nodes positions) cause)
+graph_sound limit nodes positions cause graph suits none = wave_sound_by (state_of nodes positions) cause graph.sound (taken_of (state_of nodes positions) cause suits none)
 
-pub graph_inward : (limit : ℕ) (nodes : List Node) (positions : List ℕ) (c : Command) → IsGraph limit nodes positions → Suits c (own_at (state_of nodes positions) (about c))
-    → IsInward (wave (state_of nodes positions) (command c))
-graph_inward limit nodes positions c graph suits =
+attaches_by : (cause : Cause) (own : Own) → SuitsCause cause own → MayAttachBy cause own
+attaches_by (command c) own suits = may_attach c own suits
+attaches_by (pump list) own suits = tt
+
+pub graph_inward : (limit : ℕ) (nodes : List Node) (positions : List ℕ) (cause : Cause) → IsGraph limit nodes positions → SuitsCause cause (own_at (state_of nodes positions) (subject cause))
+    → IsInward (wave (state_of nodes positions) cause)
+graph_inward limit nodes positions cause graph suits =
     let s : State = state_of nodes positions in
-    wave_inward s (command c) (may_attach c (own_at s (about c)) suits) (sound_inward s graph.sound)
+    wave_inward s cause (attaches_by cause (own_at s (subject cause)) suits) (sound_inward s graph.sound)

@@ -1,18 +1,18 @@
 -- How the lists of a plan open one after another.
 use Rattle.std.specs.Prelude.{◌≡◌, ◌<◌, ◌≤◌, ◌++◌, ◌∷◌, ⊤, [], ℕ, List, length, map, take, slice_get, Some, None}
+use Rattle.spec_states.specs.Tree.{Tree}
 use Rattle.spec_states.specs.ListDecl.{ListDecl}
 use Rattle.spec_states.specs.Reply.TheVariants as reply
-use Rattle.spec_states.specs.State.{Own, State, own_at, dependency_order}
+use Rattle.spec_states.specs.State.{Own, State, own_at, opening_of, dependency_order}
 use Rattle.spec_states.specs.Step.{too_long}
 use Rattle.spec_states.specs.Laws.{IsSound}
-use Rattle.spec_states.specs.Shown.{shown_of}
+use Rattle.spec_states.specs.Shown.{shown_of, shown}
 use Rattle.spec_states.specs.Opening.{seen_through}
 use Rattle.gl_graph.specs.declared.node.Node.{Node}
 use Rattle.gl_graph.specs.declared.start.DependencyOrder.{DependencyOrder}
 use Rattle.gl_graph.specs.declared.fault.BuildFault.{BuildFault}
 use Rattle.gl_graph.specs.declared.fault.BuildFault.TheVariants.{TooLong, Memory}
 use Rattle.gl_graph.specs.Nodes.{own_of, numbers, shown_by, state_of, StandsFor, AreSettled}
-use Rattle.gl_graph.specs.Opening.{AreKindsBuilt}
 use Rattle.gl_graph.specs.Positions.{ArePositions}
 use Rattle.gl_graph.specs.Graph.{IsLimited, IsGraph}
 
@@ -42,15 +42,18 @@ pub record AreOpened (limit : ℕ) (s : State) (positions order : List ℕ) (k :
   pub within : (p : ℕ) (n : Node) → slice_get nodes p ≡ Some n
       → length (shown_by nodes positions n.list) ≤ limit
 
--- what lists open with that are no proxies
+-- what the lists of a plan show before anything happens
+abbrev pub shown_before : List ListDecl → ℕ → List Tree
+shown_before lists = shown (map (λ (d : ListDecl). seen_through d.kind) lists)
+
+-- what they open with
 abbrev pub opened_lists : List ListDecl → State
-opened_lists lists = map (λ (d : ListDecl). seen_through d.kind) lists
+opened_lists lists = map (λ (d : ListDecl). opening_of (shown_before lists) d.kind) lists
 
 -- the lists may be opened in this order, which is that of their dependencies, with these places
 pub record AreReady (limit : ℕ) (lists : List ListDecl) (positions order : List ℕ) : Type 0 where
   pub few_lists : length lists ≤ 256
   pub few : limit ≤ 2147483647
-  pub built : AreKindsBuilt lists
   pub sound : IsSound (opened_lists lists)
   pub order_is : order ≡ dependency_order (opened_lists lists)
   pub long : length positions ≡ length lists

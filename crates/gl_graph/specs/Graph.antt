@@ -4,7 +4,7 @@ use Rattle.spec_states.specs.State.{State, dependency_order}
 use Rattle.spec_states.specs.Step.{too_long}
 use Rattle.spec_states.specs.Laws.{IsSound}
 use Rattle.gl_graph.specs.declared.keeps.Keeps.{Keeps}
-use Rattle.gl_graph.specs.declared.keeps.Keeps.TheVariants.{Source, Over, Composite, Held}
+use Rattle.gl_graph.specs.declared.keeps.Keeps.TheVariants.{Source, Over, Composite, Held, Proxy}
 use Rattle.gl_graph.specs.declared.node.Node.{Node}
 use Rattle.gl_graph.specs.Derived as derived
 use Rattle.gl_graph.specs.Nodes.{numbers, IsPlaced, AreSettled}
@@ -26,6 +26,7 @@ limit_of (Source k) = Some k.limit
 limit_of (Over input d) = derived.limit_of d
 limit_of (Composite needed k) = Some k.limit
 limit_of (Held input h) = None
+limit_of (Proxy input p) = None
 
 -- if it goes by a limit, it may have so many elements
 abbrev pub IsLimit : ℕ → Option ℕ → Type 0

@@ -9,6 +9,7 @@ pub mod Room
 pub mod Undos
 pub mod Members
 pub mod Commands
+pub mod Causes
 pub mod Rollbacks
 pub mod Graph
 pub mod Opening
@@ -17,4 +18,6 @@ pub mod Build
 pub mod Waves
 pub mod Backs
 pub mod Spread
+pub mod Queues
 pub mod Faults
+pub use Rattle.gl_held.specs.declared.fault.PumpFault

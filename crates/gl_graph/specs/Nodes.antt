@@ -3,10 +3,10 @@ use Rattle.std.specs.Prelude.{◌≡◌, ◌<◌, ◌≤◌, ⊤, ℕ, List, [],
 use Rattle.std.specs.List.{range_with_len}
 use Rattle.spec_states.specs.Tree.{Tree}
 use Rattle.std.specs.List.{All, Contains}
-use Rattle.spec_states.specs.State.{Own, State, source, over, composite}
+use Rattle.spec_states.specs.State.{Own, State, source, over, composite, proxy}
 use Rattle.spec_states.specs.Shown.{nothing_shown, settled, shows_in}
 use Rattle.gl_graph.specs.declared.keeps.Keeps.{Keeps}
-use Rattle.gl_graph.specs.declared.keeps.Keeps.TheVariants.{Source, Over, Composite, Held}
+use Rattle.gl_graph.specs.declared.keeps.Keeps.TheVariants.{Source, Over, Composite, Held, Proxy}
 use Rattle.gl_composite.specs.Stands as composite_stands
 use Rattle.gl_graph.specs.declared.node.Node.{Node}
 use Rattle.gl_graph.specs.Derived.{view_of_derived}
@@ -20,6 +20,7 @@ own_of (Source k) = source k.values
 own_of (Over input d) = over input (view_of_derived d)
 own_of (Composite needed k) = composite needed k.lists
 own_of (Held input h) = own_of_held input h
+own_of (Proxy input p) = proxy input p.values p.queue
 
 -- the list stands for what its inputs show
 abbrev pub StandsFor : Keeps → (ℕ → List Tree) → Type 0
@@ -27,6 +28,7 @@ StandsFor (Source k) shows = ⊤
 StandsFor (Over input d) shows = derived.StandsFor d (shows input)
 StandsFor (Composite needed k) shows = composite_stands.StandsFor k shows
 StandsFor (Held input h) shows = held_list.StandsFor h (shows input)
+StandsFor (Proxy input p) shows = ⊤
 
 -- the same of all that it keeps beside what the state has of it
 abbrev pub KernelStandsFor : Keeps → (ℕ → List Tree) → Type 0
@@ -34,6 +36,7 @@ KernelStandsFor (Source k) shows = ⊤
 KernelStandsFor (Over input d) shows = derived.StandsFor d (shows input)
 KernelStandsFor (Composite needed k) shows = composite_stands.StandsFor k shows
 KernelStandsFor (Held input h) shows = ⊤
+KernelStandsFor (Proxy input p) shows = ⊤
 
 -- said of each list that a list depends on
 abbrev pub OnInput : (ℕ → Type 0) → Keeps → Type 0
@@ -41,6 +44,7 @@ OnInput P (Source k) = ⊤
 OnInput P (Over input d) = P input
 OnInput P (Composite needed k) = All P needed
 OnInput P (Held input h) = P input
+OnInput P (Proxy input p) = P input
 
 -- the members of a composite are among these
 abbrev pub AreAmong : Keeps → Type 0
@@ -48,6 +52,7 @@ AreAmong (Source k) = ⊤
 AreAmong (Over input d) = ⊤
 AreAmong (Composite needed k) = All (λ list. Contains needed list) k.lists
 AreAmong (Held input h) = ⊤
+AreAmong (Proxy input p) = ⊤
 
 -- the numbers of the nodes, in their order
 abbrev pub numbers : List Node → List ℕ

@@ -1,7 +1,6 @@
--- Which lists a graph opens, and why it doesn't.
-use Rattle.std.specs.Prelude.{◌≡◌, ◌<◌, ◌++◌, ⊤, ℕ, List, slice_get, Some}
+-- What a list is opened after, and why it isn't opened.
+use Rattle.std.specs.Prelude.{◌≡◌, ◌<◌, ◌++◌, ⊤, ℕ}
 use Rattle.std.specs.List.{All}
-use Rattle.spec_states.specs.ListDecl.{ListDecl}
 use Rattle.spec_states.specs.ListKind.{ListKind}
 use Rattle.spec_states.specs.ListKind.TheVariants as kinds
 use Rattle.gl_source.specs.declared.fault.OpenFault.{OpenFault}
@@ -9,20 +8,20 @@ use Rattle.gl_source.specs.declared.fault.OpenFault.TheVariants.{TooLong, Memory
 use Rattle.gl_kernels.specs.KernelFault.{KernelFault}
 use Rattle.gl_kernels.specs.KernelFault.TheVariants as k
 
--- the list is of a kind that is built, and this is said of each list that it depends on
-abbrev pub IsBuilt : (ℕ → Type 0) → ListKind → Type 0
-IsBuilt P (kinds.Source rows) = ⊤
-IsBuilt P (kinds.Filter input matcher) = P input
-IsBuilt P (kinds.Sorted input order) = P input
-IsBuilt P (kinds.Unique input order) = P input
-IsBuilt P (kinds.Grouping input order) = P input
-IsBuilt P (kinds.Range input bounds) = P input
-IsBuilt P (kinds.Function input func) = P input
-IsBuilt P (kinds.Collection input kids) = P input
-IsBuilt P (kinds.Composite members may) = All P (members ++ may)
-IsBuilt P (kinds.Transaction input) = P input
-IsBuilt P (kinds.Freezable input) = P input
-IsBuilt P other = ⊥
+-- said of each list that a list of a plan depends on
+abbrev pub OnInputs : (ℕ → Type 0) → ListKind → Type 0
+OnInputs P (kinds.Source rows) = ⊤
+OnInputs P (kinds.Filter input matcher) = P input
+OnInputs P (kinds.Sorted input order) = P input
+OnInputs P (kinds.Unique input order) = P input
+OnInputs P (kinds.Grouping input order) = P input
+OnInputs P (kinds.Range input bounds) = P input
+OnInputs P (kinds.Function input func) = P input
+OnInputs P (kinds.Collection input kids) = P input
+OnInputs P (kinds.Composite members may) = All P (members ++ may)
+OnInputs P (kinds.Transaction input) = P input
+OnInputs P (kinds.Freezable input) = P input
+OnInputs P (kinds.Proxy input) = P input
 
 -- the list would have so many elements, which are too many
 abbrev pub IsOver : ℕ → ℕ → OpenFault → Type 0
@@ -33,11 +32,3 @@ IsOver limit len Memory = ⊤
 abbrev pub IsFaultBy : KernelFault → OpenFault → Type 0
 IsFaultBy (k.TooLong len) fault = fault ≡ TooLong len
 IsFaultBy k.Memory fault = fault ≡ Memory
-
--- the list is of a kind that is built
-abbrev pub IsKindBuilt : ListKind → Type 0
-IsKindBuilt kind = IsBuilt (λ input. ⊤) kind
-
--- all lists are
-abbrev pub AreKindsBuilt : List ListDecl → Type 0
-AreKindsBuilt lists = (k : ℕ) (d : ListDecl) → slice_get lists k ≡ Some d → IsKindBuilt d.kind

@@ -1,29 +1,26 @@
 -- What a rollback takes back.
 use Rattle.std.specs.Prelude.{◌≡◌, ◌≢◌, ⊤, ℕ, [], Option, Some, None}
-use Rattle.spec_states.specs.Command.{Command}
-use Rattle.spec_states.specs.Plan.{origin as about}
 use Rattle.spec_states.specs.State.{Own, State, transaction, own_at}
 use Rattle.spec_states.specs.Shown.{shown}
-use Rattle.spec_states.specs.Wave.{beginning, first_delta}
-use Rattle.spec_states.specs.Step.{refusal}
+use Rattle.spec_states.specs.Wave.{Cause, subject, begins, begun_with}
 use Rattle.gl_source.specs.Model.{DeltaModel}
 use Rattle.gl_held.specs.Levels.{taken_back}
 use Rattle.gl_graph.specs.declared.rollback.Rollback.{Rollback}
 use Rattle.gl_graph.specs.declared.graph.Refused.{Refused}
 use Rattle.gl_graph.specs.declared.graph.Refused.TheVariants.{NotOpen, Memory}
-use Rattle.gl_graph.specs.Commands.{IsNoRollback}
+use Rattle.gl_graph.specs.Causes.{IsPlain, refusal_of}
 
--- it takes back the source of that number, where the wave of the command begins, by the delta with which it begins
-pub record TakesBack (s : State) (c : Command) (rollback : Rollback) : Type 0 where
-  pub granted : refusal s c ≡ None
-  pub begins : beginning c (about c) (own_at s (about c)) ≡ Some rollback.source
-  pub apart : rollback.source ≢ about c
-  pub delta : rollback.delta.pieces ≡ first_delta c (own_at s (about c)) (shown s)
+-- it takes back the source of that number, where the wave begins, by the delta with which it begins
+pub record TakesBack (s : State) (cause : Cause) (rollback : Rollback) : Type 0 where
+  pub granted : refusal_of s cause ≡ None
+  pub begins : begins cause (own_at s (subject cause)) ≡ Some rollback.source
+  pub apart : rollback.source ≢ subject cause
+  pub delta : rollback.delta.pieces ≡ begun_with cause (own_at s (subject cause)) (shown s)
 
--- what a command takes back, if it is a rollback
-abbrev pub IsRollback : State → Command → Option Rollback → Type 0
-IsRollback s c None = IsNoRollback c
-IsRollback s c (Some rollback) = TakesBack s c rollback
+-- what a cause takes back, if it is a rollback
+abbrev pub IsRollback : State → Cause → Option Rollback → Type 0
+IsRollback s cause None = IsPlain cause
+IsRollback s cause (Some rollback) = TakesBack s cause rollback
 
 -- by what a transaction list keeps
 abbrev pub IsRollbackOf : Own → Rollback → Type 0
@@ -37,10 +34,10 @@ IsRefusedOf (transaction input levels) NotOpen = levels ≡ []
 IsRefusedOf own Memory = ⊤
 IsRefusedOf own other = ⊥
 
--- where the wave of a command begins
-abbrev pub start_at : Option Rollback → Command → ℕ
-start_at None c = about c
-start_at (Some rollback) c = rollback.source
+-- where a wave begins
+abbrev pub start_at : Option Rollback → Cause → ℕ
+start_at None cause = subject cause
+start_at (Some rollback) cause = rollback.source
 
 -- a list is the source that is taken back
 abbrev pub IsSourceOf : ℕ → Option Rollback → Type 0

@@ -1,8 +1,8 @@
 -- How much lists have room for.
 use Rattle.std.specs.Prelude.{◌≤◌, ℕ}
 
--- of what they keep of each element, member or group; of the members of a composite; of sorted places; and of the marks of
--- the first members of classes
+-- of what they keep of each element, member or group; of the members of a composite or the queue of a proxy; of sorted places; and
+-- of the marks of the first members of classes
 pub record Room : Type 0 where
   pub kept : ℕ
   pub members : ℕ

@@ -1,21 +1,18 @@
--- How a command spreads through the nodes of a graph, from the list where its wave begins on, one place after another.
+-- How a wave spreads through the nodes of a graph, from the list where its wave begins on, one place after another.
 use Rattle.std.specs.Prelude.{◌≡◌, ◌≢◌, ◌<◌, ◌≤◌, ◌⊎◌, ⊤, ℕ, true, false, [], List, length, drop, take, slice_get, slice_index, slice_index_or, slice_set, Option, Some, None, Result, IfOk, IfErr, OnErr}
 use Rattle.std.specs.List.{Contains}
 use Rattle.spec_states.specs.Tree.{Tree}
 use Rattle.spec_states.specs.Piece.{old_len}
 use Rattle.spec_states.specs.Delta.{Delta, no_change}
 use Rattle.spec_states.specs.Leads.{LeadsFrom, LeadsTo, undone}
-use Rattle.spec_states.specs.Command.{Command}
 use Rattle.spec_states.specs.Reply.TheVariants as reply
 use Rattle.gl_source.specs.Model.{DeltaModel}
-use Rattle.spec_states.specs.Plan.{origin as about}
 use Rattle.spec_states.specs.State.{Own, State, transaction, inputs, own_at}
 use Rattle.spec_states.specs.Shown.{shown, shown_of, is_held}
-use Rattle.spec_states.specs.Wave.{command, beginning, kept_after, kept_later, first_delta, follow, wave, wave_deltas, delta_in}
-use Rattle.spec_states.specs.Step.{refusal, refused_by}
+use Rattle.spec_states.specs.Wave.{Cause, subject, kept_by, kept_later, begun_with, follow, wave, wave_deltas, delta_in}
 use Rattle.gl_graph.specs.declared.node.Node.{Node}
 use Rattle.gl_graph.specs.declared.keeps.Keeps.{Keeps}
-use Rattle.gl_graph.specs.declared.keeps.Keeps.TheVariants.{Source, Held}
+use Rattle.gl_graph.specs.declared.keeps.Keeps.TheVariants.{Source, Held, Proxy}
 use Rattle.gl_graph.specs.declared.keeps.KeepsUndo.{KeepsUndo}
 use Rattle.gl_graph.specs.declared.turned.Turned.{Turned}
 use Rattle.gl_graph.specs.declared.turned.Turned.TheVariants.{Stays, Silent, Told}
@@ -29,7 +26,7 @@ use Rattle.gl_graph.specs.declared.held.Held.TheVariants as h
 use Rattle.gl_graph.specs.Held as held_list
 use Rattle.gl_graph.specs.Held.{own_of_held, composed_with}
 use Rattle.gl_graph.specs.declared.keeps.KeepsUndo.TheVariants as u
-use Rattle.gl_graph.specs.Commands.{Suits, IsNoRollback}
+use Rattle.gl_graph.specs.Causes.{SuitsCause, IsPlain, refused_of, refusal_of, begin_at}
 use Rattle.gl_graph.specs.Rollbacks.{IsRollback, IsSourceOf, start_at}
 use Rattle.gl_graph.specs.Graph.{limit_of, IsLimited, IsGraph}
 use Rattle.gl_graph.specs.Room.{IsNoMore}
@@ -85,24 +82,24 @@ IsSourceStep shows back list old new (Silent undo) = ⊥
 IsSourceStep shows back list old new (Told d undo) =
     HasTold shows (put_back list (own_of old) back) back old new d undo
 
--- the list that a command is about takes it: it tells the delta with which the wave begins there, or nothing where it doesn't
-pub record IsQuietOwn (shows : ℕ → List Tree) (c : Command) (list : ℕ) (old new : Keeps)
+-- the list that a cause is about takes it: it tells the delta with which the wave begins there, or nothing where it doesn't
+pub record IsQuietOwn (shows : ℕ → List Tree) (cause : Cause) (list : ℕ) (old new : Keeps)
     (undo : KeepsUndo) : Type 0 where
-  pub inside : refused_by (own_of old) c ≡ None
-  pub elsewhere : beginning c list (own_of old) ≢ Some list
-  pub turned : HasTurned shows (kept_after c shows (own_of old)) old new undo
+  pub inside : refused_of (own_of old) cause ≡ None
+  pub elsewhere : begin_at cause list (own_of old) ≢ Some list
+  pub turned : HasTurned shows (kept_by cause shows (own_of old)) old new undo
 
-pub record IsToldOwn (shows : ℕ → List Tree) (c : Command) (list : ℕ) (old new : Keeps)
+pub record IsToldOwn (shows : ℕ → List Tree) (cause : Cause) (list : ℕ) (old new : Keeps)
     (d : DeltaModel) (undo : KeepsUndo) : Type 0 where
-  pub inside : refused_by (own_of old) c ≡ None
-  pub here : beginning c list (own_of old) ≡ Some list
-  pub told : HasTold shows (kept_after c shows (own_of old)) (first_delta c (own_of old) shows) old new
+  pub inside : refused_of (own_of old) cause ≡ None
+  pub here : begin_at cause list (own_of old) ≡ Some list
+  pub told : HasTold shows (kept_by cause shows (own_of old)) (begun_with cause (own_of old) shows) old new
       d undo
 
-abbrev pub IsOwnStep : (ℕ → List Tree) → Command → ℕ → Keeps → Keeps → Turned → Type 0
-IsOwnStep shows c list old new Stays = ⊥
-IsOwnStep shows c list old new (Silent undo) = IsQuietOwn shows c list old new undo
-IsOwnStep shows c list old new (Told d undo) = IsToldOwn shows c list old new d undo
+abbrev pub IsOwnStep : (ℕ → List Tree) → Cause → ℕ → Keeps → Keeps → Turned → Type 0
+IsOwnStep shows cause list old new Stays = ⊥
+IsOwnStep shows cause list old new (Silent undo) = IsQuietOwn shows cause list old new undo
+IsOwnStep shows cause list old new (Told d undo) = IsToldOwn shows cause list old new d undo
 
 -- what a list keeps with one open level less
 abbrev pub one_less : Own → Own
@@ -130,11 +127,16 @@ HasKept d old new (Told out u.Unchanged) =
     × ((new ≡ old) × (out.pieces ≡ d.pieces))
 HasKept d old new other = ⊥
 
--- any other list is as it was where nothing is told of its inputs; else one that is held keeps what they tell, and one that
--- isn't follows
+-- the list is a proxy, which takes nothing until it is pumped
+abbrev pub IsCopy : Keeps → Type 0
+IsCopy (Proxy input p) = ⊤
+IsCopy other = ⊥
+
+-- any other list is as it was where nothing is told of its inputs, and so is a proxy; else one that is held keeps what they tell,
+-- and one that isn't follows
 pub record IsLeft (deltas : List (Option DeltaModel)) (old new : Keeps) : Type 0 where
   pub same : new ≡ old
-  pub untold : OnInput (λ i. slice_index_or deltas i None ≡ None) old
+  pub untold : OnInput (λ i. slice_index_or deltas i None ≡ None) old ⊎ IsCopy old
 
 pub record IsKeeping (shows : ℕ → List Tree) (deltas : List (Option DeltaModel)) (list : ℕ)
     (old new : Keeps) (undo : KeepsUndo) : Type 0 where
@@ -156,30 +158,30 @@ IsOtherStep shows deltas list old new (Silent undo) = IsKeeping shows deltas lis
 IsOtherStep shows deltas list old new (Told d undo) = IsFollowing shows deltas old new d undo
 
 -- what becomes of a list in a wave, where this is told of those before it
-pub data IsStep (rollback : Option Rollback) (shows : ℕ → List Tree) (c : Command)
+pub data IsStep (rollback : Option Rollback) (shows : ℕ → List Tree) (cause : Cause)
     (deltas : List (Option DeltaModel)) (list : ℕ) (old new : Keeps) (turned : Turned) : Type 0 where
   at_source : (back : Rollback) → rollback ≡ Some back → list ≡ back.source
       → IsSourceStep shows back.delta.pieces list old new turned
-      → IsStep rollback shows c deltas list old new turned
-  at_own : list ≡ about c → IsOwnStep shows c list old new turned
-      → IsStep rollback shows c deltas list old new turned
-  at_other : list ≢ about c → ¬ IsSourceOf list rollback
+      → IsStep rollback shows cause deltas list old new turned
+  at_own : list ≡ subject cause → IsOwnStep shows cause list old new turned
+      → IsStep rollback shows cause deltas list old new turned
+  at_other : list ≢ subject cause → ¬ IsSourceOf list rollback
       → IsOtherStep shows deltas list old new turned
-      → IsStep rollback shows c deltas list old new turned
+      → IsStep rollback shows cause deltas list old new turned
 
 -- a list that keeps this would show so many elements, which are too many
 pub record IsLong (limit : ℕ) (shows : ℕ → List Tree) (own : Own) (len : ℕ) : Type 0 where
   pub past : limit < len
   pub len_is : len ≡ length (shown_of own shows)
 
--- why what a list keeps refuses a command
-abbrev pub IsRefusalOf : Own → Command → Refused → Type 0
-IsRefusalOf own c (OutOfRange index len) = refused_by own c ≡ Some (reply.OutOfRange index len)
-IsRefusalOf own c (TooLong number len) = ⊥
-IsRefusalOf own c AlreadyFrozen = refused_by own c ≡ Some reply.AlreadyFrozen
-IsRefusalOf own c NotFrozen = refused_by own c ≡ Some reply.NotFrozen
-IsRefusalOf own c NotOpen = refused_by own c ≡ Some reply.NotOpen
-IsRefusalOf own c Memory = ⊤
+-- why what a list keeps refuses a cause
+abbrev pub IsRefusalOf : Own → Cause → Refused → Type 0
+IsRefusalOf own cause (OutOfRange index len) = refused_of own cause ≡ Some (reply.OutOfRange index len)
+IsRefusalOf own cause (TooLong number len) = ⊥
+IsRefusalOf own cause AlreadyFrozen = refused_of own cause ≡ Some reply.AlreadyFrozen
+IsRefusalOf own cause NotFrozen = refused_of own cause ≡ Some reply.NotFrozen
+IsRefusalOf own cause NotOpen = refused_of own cause ≡ Some reply.NotOpen
+IsRefusalOf own cause Memory = ⊤
 
 -- why the source of a rollback doesn't change: taken back it would be too long
 abbrev pub IsSourceStopped : ℕ → (ℕ → List Tree) → Delta → ℕ → Own → Refused → Type 0
@@ -188,11 +190,11 @@ IsSourceStopped limit shows back list own (TooLong number len) =
 IsSourceStopped limit shows back list own Memory = ⊤
 IsSourceStopped limit shows back list own other = ⊥
 
--- why the list doesn't change that a command is about: it refuses it, or takes it and would be too long
-abbrev pub IsOwnStopped : ℕ → (ℕ → List Tree) → Command → ℕ → Own → Refused → Type 0
-IsOwnStopped limit shows c list own (TooLong number len) =
-    (number ≡ list) × ((refused_by own c ≡ None) × IsLong limit shows (kept_after c shows own) len)
-IsOwnStopped limit shows c list own other = IsRefusalOf own c other
+-- why the list doesn't change that a cause is about: it refuses it, or takes it and would be too long
+abbrev pub IsOwnStopped : ℕ → (ℕ → List Tree) → Cause → ℕ → Own → Refused → Type 0
+IsOwnStopped limit shows cause list own (TooLong number len) =
+    (number ≡ list) × ((refused_of own cause ≡ None) × IsLong limit shows (kept_by cause shows own) len)
+IsOwnStopped limit shows cause list own other = IsRefusalOf own cause other
 
 -- why another one doesn't: it follows and would be too long
 abbrev pub IsOtherStopped : ℕ → (ℕ → List Tree) → List (Option DeltaModel) → ℕ → Own → Refused
@@ -204,25 +206,25 @@ IsOtherStopped limit shows deltas list own Memory = ⊤
 IsOtherStopped limit shows deltas list own other = ⊥
 
 -- why a list doesn't change
-pub data IsStopped (limit : ℕ) (rollback : Option Rollback) (shows : ℕ → List Tree) (c : Command)
+pub data IsStopped (limit : ℕ) (rollback : Option Rollback) (shows : ℕ → List Tree) (cause : Cause)
     (deltas : List (Option DeltaModel)) (list : ℕ) (own : Own) (why : Refused) : Type 0 where
   source_stops : (back : Rollback) → rollback ≡ Some back → list ≡ back.source
       → IsSourceStopped limit shows back.delta.pieces list own why
-      → IsStopped limit rollback shows c deltas list own why
-  own_stops : list ≡ about c → IsOwnStopped limit shows c list own why
-      → IsStopped limit rollback shows c deltas list own why
-  other_stops : list ≢ about c → ¬ IsSourceOf list rollback
+      → IsStopped limit rollback shows cause deltas list own why
+  own_stops : list ≡ subject cause → IsOwnStopped limit shows cause list own why
+      → IsStopped limit rollback shows cause deltas list own why
+  other_stops : list ≢ subject cause → ¬ IsSourceOf list rollback
       → IsOtherStopped limit shows deltas list own why
-      → IsStopped limit rollback shows c deltas list own why
+      → IsStopped limit rollback shows cause deltas list own why
 
 -- a list changes, or is as it was
-pub record IsTried (rollback : Option Rollback) (shows : ℕ → List Tree) (c : Command)
+pub record IsTried (rollback : Option Rollback) (shows : ℕ → List Tree) (cause : Cause)
     (deltas : List (Option DeltaModel)) (list : ℕ) (old new : Keeps)
     (result : Result Turned Refused) : Type 0 where
-  pub ok : IfOk result (IsStep rollback shows c deltas list old new)
+  pub ok : IfOk result (IsStep rollback shows cause deltas list old new)
   pub err : OnErr result (contents new ≡ contents old)
   pub stopped : (limit : ℕ) → IsLimited limit old
-      → IfErr result (IsStopped limit rollback shows c deltas list (own_of old))
+      → IfErr result (IsStopped limit rollback shows cause deltas list (own_of old))
   pub room : OnErr result (IsNoMore (room_of old) (room_of new))
 
 -- a source that can be taken back by a delta
@@ -235,18 +237,18 @@ abbrev pub HasLevel : Keeps → Type 0
 HasLevel (Held input (h.Transaction t)) = 0 < length t.levels
 HasLevel other = ⊥
 
--- the list that a command is about is rolled back: the wave of the command begins elsewhere
-pub record CanRoll (c : Command) (list : ℕ) (keeps : Keeps) : Type 0 where
-  pub suits : Suits c (own_of keeps)
-  pub rollback : ¬ IsNoRollback c
-  pub inside : refused_by (own_of keeps) c ≡ None
-  pub elsewhere : beginning c list (own_of keeps) ≢ Some list
+-- the list that a cause is about is rolled back: the wave begins elsewhere
+pub record CanRoll (cause : Cause) (list : ℕ) (keeps : Keeps) : Type 0 where
+  pub suits : SuitsCause cause (own_of keeps)
+  pub rollback : ¬ IsPlain cause
+  pub inside : refused_of (own_of keeps) cause ≡ None
+  pub elsewhere : begin_at cause list (own_of keeps) ≢ Some list
   pub level : HasLevel keeps
 
 -- or can take it
-pub record CanTake (shows : ℕ → List Tree) (c : Command) (keeps : Keeps) : Type 0 where
-  pub suits : Suits c (own_of keeps)
-  pub no_rollback : IsNoRollback c
+pub record CanTake (shows : ℕ → List Tree) (cause : Cause) (keeps : Keeps) : Type 0 where
+  pub suits : SuitsCause cause (own_of keeps)
+  pub plain : IsPlain cause
   pub stands : StandsFor keeps shows
 
 -- by what is told of its inputs, another one can follow
@@ -255,15 +257,15 @@ pub record CanFollow (shows : ℕ → List Tree) (deltas : List (Option DeltaMod
   pub leads : OnInput (λ i. LeadsTo (delta_told deltas shows i) (shows i)) keeps
   pub stood : StandsFor keeps (shown_before deltas shows)
 
--- the list can be turned by a command, where this is told of those before it
-pub record CanTurn (rollback : Option Rollback) (shows : ℕ → List Tree) (c : Command)
+-- the list can be turned by a cause, where this is told of those before it
+pub record CanTurn (rollback : Option Rollback) (shows : ℕ → List Tree) (cause : Cause)
     (deltas : List (Option DeltaModel)) (list : ℕ) (keeps : Keeps) : Type 0 where
   pub within : OnInput (λ i. i < length deltas) keeps
   pub source : (back : Rollback) → rollback ≡ Some back → list ≡ back.source
       → CanTakeBack back.delta.pieces keeps
-  pub rolled : (back : Rollback) → rollback ≡ Some back → list ≡ about c → CanRoll c list keeps
-  pub own : rollback ≡ None → list ≡ about c → CanTake shows c keeps
-  pub other : list ≢ about c → ¬ IsSourceOf list rollback → CanFollow shows deltas keeps
+  pub rolled : (back : Rollback) → rollback ≡ Some back → list ≡ subject cause → CanRoll cause list keeps
+  pub own : rollback ≡ None → list ≡ subject cause → CanTake shows cause keeps
+  pub other : list ≢ subject cause → ¬ IsSourceOf list rollback → CanFollow shows deltas keeps
 
 -- ---- the nodes
 
@@ -274,24 +276,24 @@ pub record IsSetAt (position : ℕ) (old new : List Node) (was now : Node) : Typ
   pub list : now.list ≡ was.list
 
 -- the nodes with the one at a place tried
-pub record IsTriedAt (rollback : Option Rollback) (positions : List ℕ) (c : Command)
+pub record IsTriedAt (rollback : Option Rollback) (positions : List ℕ) (cause : Cause)
     (deltas : List (Option DeltaModel)) (position : ℕ) (old new : List Node)
     (result : Result Turned Refused) : Type 0 where
   pub was : Node
   pub now : Node
   pub set : IsSetAt position old new was now
-  pub tried : IsTried rollback (shown_by (take position old) positions) c deltas was.list was.keeps
+  pub tried : IsTried rollback (shown_by (take position old) positions) cause deltas was.list was.keeps
       now.keeps result
 
 -- the node at a place can be turned
-pub record CanTurnAt (rollback : Option Rollback) (positions : List ℕ) (c : Command)
+pub record CanTurnAt (rollback : Option Rollback) (positions : List ℕ) (cause : Cause)
     (deltas : List (Option DeltaModel)) (position : ℕ) (nodes : List Node) : Type 0 where
   pub node : Node
   pub there : slice_get nodes position ≡ Some node
   pub settled : AreSettled (take position nodes) positions
   pub later : OnInput (IsPlaced (take position nodes) positions) node.keeps
   pub among : AreAmong node.keeps
-  pub can : CanTurn rollback (shown_by (take position nodes) positions) c deltas node.list node.keeps
+  pub can : CanTurn rollback (shown_by (take position nodes) positions) cause deltas node.list node.keeps
 
 -- the list at a place, whose node is there, stands for what the lists before it show
 pub record StandAt (positions : List ℕ) (position : ℕ) (nodes : List Node) : Type 0 where
@@ -310,44 +312,44 @@ abbrev pub shown_len_at : List ℕ → ℕ → List Node → ℕ
 shown_len_at positions position nodes =
     len_by (slice_get nodes position) (shown_by (take position nodes) positions)
 
--- the list where the wave of a command begins stands before a place
-abbrev pub HasBegun : List ℕ → Option Rollback → Command → ℕ → Type 0
-HasBegun positions rollback c position = slice_index positions (start_at rollback c) < position
+-- the list where a wave begins stands before a place
+abbrev pub HasBegun : List ℕ → Option Rollback → Cause → ℕ → Type 0
+HasBegun positions rollback cause position = slice_index positions (start_at rollback cause) < position
 
--- a graph within its limit, a command for one of its lists, and what it takes back if it is a rollback
-pub record IsBegun (limit : ℕ) (old : List Node) (positions : List ℕ) (c : Command)
+-- a graph within its limit, a cause for one of its lists, and what it takes back if it is a rollback
+pub record IsBegun (limit : ℕ) (old : List Node) (positions : List ℕ) (cause : Cause)
     (rollback : Option Rollback) : Type 0 where
   pub graph : IsGraph limit old positions
-  pub within : about c < length (state_of old positions)
-  pub suits : Suits c (own_at (state_of old positions) (about c))
-  pub is_rollback : IsRollback (state_of old positions) c rollback
+  pub within : subject cause < length (state_of old positions)
+  pub suits : SuitsCause cause (own_at (state_of old positions) (subject cause))
+  pub is_rollback : IsRollback (state_of old positions) cause rollback
 
--- the nodes once the command has come as far as a place
-pub record AreInverse (limit : ℕ) (old : List Node) (positions : List ℕ) (c : Command)
+-- the nodes once the wave has come as far as a place
+pub record AreInverse (limit : ℕ) (old : List Node) (positions : List ℕ) (cause : Cause)
     (rollback : Option Rollback) (position : ℕ) (nodes : List Node) : Type 0 where
   pub numbers_are : numbers nodes ≡ numbers old
   pub dependency_order : AreInTurn nodes positions
   pub settled : AreSettled (take position nodes) positions
   pub own : (p : ℕ) (n : Node) → p < position → slice_get nodes p ≡ Some n
-      → own_of n.keeps ≡ own_at (wave (state_of old positions) (command c)) n.list
+      → own_of n.keeps ≡ own_at (wave (state_of old positions) cause) n.list
   pub rest : (p : ℕ) → position ≤ p → slice_get nodes p ≡ slice_get old p
   pub limited : (p : ℕ) (n : Node) → slice_get nodes p ≡ Some n → IsLimited limit n.keeps
   pub few : (list : ℕ) → list < length positions → slice_index positions list < position
-      → length (shown (wave (state_of old positions) (command c)) list) ≤ limit
-  pub inside : HasBegun positions rollback c position → refusal (state_of old positions) c ≡ None
+      → length (shown (wave (state_of old positions) cause) list) ≤ limit
+  pub inside : HasBegun positions rollback cause position → refusal_of (state_of old positions) cause ≡ None
 
 -- what is told of the lists that stand before a place: nothing while the wave hasn't begun
-pub record AreToldTo (s : State) (positions : List ℕ) (c : Command) (rollback : Option Rollback)
+pub record AreToldTo (s : State) (positions : List ℕ) (cause : Cause) (rollback : Option Rollback)
     (position : ℕ) (told : List (Option DeltaModel)) : Type 0 where
   pub long : length told ≡ length positions
   pub each : (list : ℕ) → list < length positions → slice_index positions list < position
-      → IsTold (length (shown s list)) (delta_in (wave_deltas s (command c)) list)
+      → IsTold (length (shown s list)) (delta_in (wave_deltas s cause) list)
       (slice_index_or told list None)
   pub same : (list : ℕ) → list < length positions → slice_index positions list < position
-      → slice_index_or told list None ≡ None → shown (wave s (command c)) list ≡ shown s list
+      → slice_index_or told list None ≡ None → shown (wave s cause) list ≡ shown s list
   pub others : (list : ℕ) → list < length positions → position ≤ slice_index positions list
       → slice_index_or told list None ≡ None
-  pub quiet : ¬ HasBegun positions rollback c position → (list : ℕ)
+  pub quiet : ¬ HasBegun positions rollback cause position → (list : ℕ)
       → slice_index_or told list None ≡ None
 
 -- the undos, by place, lead back to the nodes that there were, and can be made
@@ -362,13 +364,13 @@ pub record HaveBack (old nodes : List Node) (made : Made) : Type 0 where
   pub lead : LeadBack old nodes (by_position (length nodes) made)
   pub apart : AreApart (length nodes) made
 
--- the command has come as far as a place
-pub record IsSpread (limit : ℕ) (old : List Node) (positions : List ℕ) (c : Command)
+-- the wave has come as far as a place
+pub record IsSpread (limit : ℕ) (old : List Node) (positions : List ℕ) (cause : Cause)
     (rollback : Option Rollback) (position : ℕ) (nodes : List Node) (told : List (Option DeltaModel))
     (made : Made) : Type 0 where
-  pub begun : IsBegun limit old positions c rollback
-  pub inverted : AreInverse limit old positions c rollback position nodes
-  pub told_to : AreToldTo (state_of old positions) positions c rollback position told
+  pub begun : IsBegun limit old positions cause rollback
+  pub inverted : AreInverse limit old positions cause rollback position nodes
+  pub told_to : AreToldTo (state_of old positions) positions cause rollback position told
   pub back : HaveBack old nodes made
   pub waiting : (p : ℕ) → position ≤ p → p < length nodes
       → slice_get (by_position (length nodes) made) p ≡ Some None
@@ -386,9 +388,9 @@ IsOver limit list len (OutOfRange index n) = ⊥
 IsOver limit list len (TooLong number n) = (number ≡ list) × ((n ≡ len) × (limit < len))
 IsOver limit list len other = ⊥
 
--- the command has come so far from some nodes
-pub record IsSpreading (limit : ℕ) (positions : List ℕ) (c : Command) (rollback : Option Rollback)
+-- the wave has come so far from some nodes
+pub record IsSpreading (limit : ℕ) (positions : List ℕ) (cause : Cause) (rollback : Option Rollback)
     (position : ℕ) (nodes : List Node) (told : List (Option DeltaModel)) (made : Made) : Type 0
   where
     pub old : List Node
-    pub is : IsSpread limit old positions c rollback position nodes told made
+    pub is : IsSpread limit old positions cause rollback position nodes told made

@@ -2,11 +2,12 @@
 use Rattle.std.specs.Prelude.{◌≡◌, ◌<◌, ⊤, ℕ, List, [], ◌∷◌, length, map, fold, replicate, slice_get, slice_set, slice_index_or, Option, Some, None}
 use Rattle.spec_states.specs.Delta.{Delta, no_change}
 use Rattle.spec_states.specs.Command.{Command}
+use Rattle.spec_states.specs.Reply.{Reply}
 use Rattle.spec_states.specs.Reply.TheVariants as reply
 use Rattle.gl_source.specs.Model.{DeltaModel}
 use Rattle.spec_states.specs.State.{State}
 use Rattle.spec_states.specs.Shown.{shown}
-use Rattle.spec_states.specs.Wave.{command, delta_in, wave_deltas}
+use Rattle.spec_states.specs.Wave.{Cause, delta_in, wave_deltas}
 use Rattle.spec_states.specs.Step.{unmoved}
 use Rattle.gl_graph.specs.declared.node.Node.{Node}
 use Rattle.gl_graph.specs.declared.keeps.Keeps.{Keeps}
@@ -14,6 +15,7 @@ use Rattle.gl_graph.specs.declared.keeps.KeepsUndo.{KeepsUndo}
 use Rattle.gl_graph.specs.declared.graph.Refused.{Refused}
 use Rattle.gl_graph.specs.declared.graph.Refused.TheVariants.{OutOfRange, TooLong, AlreadyFrozen, NotFrozen, NotOpen, Memory}
 use Rattle.gl_graph.specs.declared.graph.GraphUndo.{GraphUndo}
+use Rattle.gl_graph.specs.Causes.{unmoved_of}
 use Rattle.gl_graph.specs.Nodes.{numbers}
 use Rattle.gl_graph.specs.Graph.{Kept, IsGraph}
 use Rattle.gl_graph.specs.Room.{Room, IsNoMore}
@@ -24,21 +26,29 @@ abbrev pub IsTold : ℕ → Delta → Option DeltaModel → Type 0
 IsTold len delta None = delta ≡ no_change len
 IsTold len delta (Some d) = (d.pieces ≡ delta) × ¬ (d.pieces ≡ no_change len)
 
--- of each list is told what the wave of a command does to it
-pub record AreTold (s : State) (c : Command) (told : List (Option DeltaModel)) : Type 0 where
+-- of each list is told what a wave does to it
+pub record AreTold (s : State) (cause : Cause) (told : List (Option DeltaModel)) : Type 0 where
   pub long : length told ≡ length s
   pub each : (list : ℕ) → list < length s
-      → IsTold (length (shown s list)) (delta_in (wave_deltas s (command c)) list)
+      → IsTold (length (shown s list)) (delta_in (wave_deltas s cause) list)
       (slice_index_or told list None)
+
+-- this is why nothing moves, by the reply that says so
+abbrev pub IsReply : Option Reply → Refused → Type 0
+IsReply unmoved (OutOfRange index len) = unmoved ≡ Some (reply.OutOfRange index len)
+IsReply unmoved (TooLong list len) = unmoved ≡ Some (reply.TooLong list len)
+IsReply unmoved AlreadyFrozen = unmoved ≡ Some reply.AlreadyFrozen
+IsReply unmoved NotFrozen = unmoved ≡ Some reply.NotFrozen
+IsReply unmoved NotOpen = unmoved ≡ Some reply.NotOpen
+IsReply unmoved Memory = ⊤
 
 -- this is why a command makes no wave
 abbrev pub IsRefused : ℕ → State → Command → Refused → Type 0
-IsRefused limit s c (OutOfRange index len) = unmoved limit s c ≡ Some (reply.OutOfRange index len)
-IsRefused limit s c (TooLong list len) = unmoved limit s c ≡ Some (reply.TooLong list len)
-IsRefused limit s c AlreadyFrozen = unmoved limit s c ≡ Some reply.AlreadyFrozen
-IsRefused limit s c NotFrozen = unmoved limit s c ≡ Some reply.NotFrozen
-IsRefused limit s c NotOpen = unmoved limit s c ≡ Some reply.NotOpen
-IsRefused limit s c Memory = ⊤
+IsRefused limit s c why = IsReply (unmoved limit s c) why
+
+-- this is why a cause makes none
+abbrev pub IsStopping : ℕ → State → Cause → Refused → Type 0
+IsStopping limit s cause why = IsReply (unmoved_of limit s cause) why
 
 -- what lists keep, whatever their room
 abbrev pub contents_of : List Node → List keeps.Contents

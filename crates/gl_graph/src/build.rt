@@ -1,10 +1,10 @@
 //! How the lists of a plan open.
 
 ghost use Rattle.std.specs.Prelude.{◌≡◌, ◌≤◌, ◌++◌, ◌∷◌, [], length, IfErr, OnOk};
+ghost use Rattle.spec_states.specs.State.{opening_of};
 ghost use Rattle.spec_states.specs.Shown.{shown_of};
-ghost use Rattle.spec_states.specs.Opening.{seen_through};
 ghost use Rattle.gl_graph.specs.Nodes.{shown_by, AreSettled, IsPlaced};
-ghost use Rattle.gl_graph.specs.Opening.{IsBuilt};
+ghost use Rattle.gl_graph.specs.Opening.{OnInputs};
 ghost use Rattle.gl_graph.specs.Build.{IsOneMore, IsFault};
 
 use crate::fault::BuildFault;
@@ -26,14 +26,16 @@ pub(crate) fn open_next<L: Ledger>(
     steps: &mut Steps<L>,
 ) -> Result<(), BuildFault>
     requires settled { AreSettled nodes.old.items positions.now }
-    requires built { IsBuilt (IsPlaced nodes.old.items positions.now) kind.now }
+    requires inputs { OnInputs (IsPlaced nodes.old.items positions.now) kind.now }
     requires few { limit ≤ 2147483647 }
     ensures more { OnOk result
-        (IsOneMore limit positions.now list (seen_through kind.now) nodes.old.items
+        (IsOneMore limit positions.now list
+        (opening_of (shown_by nodes.old.items positions.now) kind.now) nodes.old.items
         nodes.new.items) }
     ensures fault { IfErr result
         (IsFault limit list
-        (length (shown_of (seen_through kind.now) (shown_by nodes.old.items positions.now)))) }
+        (length (shown_of (opening_of (shown_by nodes.old.items positions.now) kind.now)
+        (shown_by nodes.old.items positions.now)))) }
 {
     match opened(alloc, kind, nodes.as_slice(), positions, limit, steps) {
         Ok(keeps) => {

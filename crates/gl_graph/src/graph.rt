@@ -1,31 +1,36 @@
 //! The lists of a plan.
 
-ghost use Rattle.std.specs.Prelude.{◌≡◌, ◌<◌, [], None, Some, length, slice_get, IfOk, IfErr, OnOk, OnErr};
+ghost use Rattle.std.specs.Prelude.{◌≡◌, ◌≢◌, ◌<◌, ◌↔◌, ℕ, [], None, Some, Err, length, slice_get, slice_set, IfOk, IfErr, OnOk, OnErr};
 ghost use Rattle.std.specs.Option.{option_copied};
 ghost use Rattle.spec_states.specs.Plan.{origin as about};
 ghost use Rattle.spec_states.specs.State.{own_at};
 ghost use Rattle.spec_states.specs.Shown.{shown};
 ghost use Rattle.spec_states.specs.Opening.{opening};
-ghost use Rattle.spec_states.specs.Wave.{command as made_by, wave};
+ghost use Rattle.spec_states.specs.Wave.{command as made_by, pump as made_by_pump, subject, wave};
 ghost use Rattle.spec_states.specs.Step.{too_long, unmoved};
 ghost use Rattle.gl_graph.specs.Nodes.{numbers};
 ghost use Rattle.gl_graph.specs.Graph.{state_of, IsGraph};
 ghost use Rattle.gl_graph.specs.Commands.{Suits};
+ghost use Rattle.gl_graph.specs.Causes.{SuitsCause, cause_of, unmoved_of};
+ghost use Rattle.gl_graph.specs.Queues.{IsProxy, queue_of, LeadsOn, with_one_queued, HasQueueRoom};
 ghost use Rattle.gl_graph.specs.Holds.{hold_of};
-ghost use Rattle.gl_graph.specs.Opening.{AreKindsBuilt};
+ghost use Rattle.gl_held.specs.declared.fault.PumpFault.TheVariants as PumpFault;
 ghost use Rattle.gl_graph.specs.Build.{IsReason};
-ghost use Rattle.gl_graph.specs.Waves.{AreTold, AreApart, IsRefused, IsUndo, CanRetreat, CanAllGoBack, HaveRoomBack, HaveRoomOf, IsAsRoomy, contents, contents_of, before, before_all, by_position};
+ghost use Rattle.gl_graph.specs.Waves.{AreTold, AreApart, IsRefused, IsStopping, IsUndo, CanRetreat, CanAllGoBack, HaveRoomBack, HaveRoomOf, IsAsRoomy, contents, contents_of, before, before_all, by_position};
 ghost use Rattle.gl_graph.specs.Backs.{CanGoBackAt, IsBackAt};
 
+use crate::cause::Cause;
 use crate::fault::BuildFault;
 use crate::hold::Hold;
 use crate::keeps::KeepsUndo;
 use crate::node::Node;
+use crate::queue::{queue_at, reserve_at};
 use crate::rollback::rollback_of;
 use crate::seen::{element, node_of, shown_len};
 use crate::spread::spread_all;
 use crate::start::{dependency_order_of, open_all};
-use gl_kernels::Deltas;
+use gl_held::PumpFault;
+use gl_kernels::{Delta, Deltas};
 use gl_plan::{Command, Memory, Plan, Steps, Value};
 use std::alloc::Global;
 use std::marker::Model;
@@ -102,7 +107,6 @@ impl Graph {
     /// The lists of a plan as they open, or the first in their dependency order that would be too long. It takes memory
     /// for what each list keeps.
     pub fn build(alloc: Global, plan: &Plan) -> Result<Graph, BuildFault>
-        requires { AreKindsBuilt plan.now.lists }
         ensures state { IfOk result (λ g. state_of g ≡ opening plan.now) }
         ensures limit { IfOk result (λ g. g.limit ≡ plan.now.limit) }
         ensures within { OnOk result (too_long plan.now.limit (opening plan.now) ≡ None) }
@@ -163,19 +167,79 @@ impl Graph {
             (unmoved self.old.limit (state_of self.old) command.now ≡ None) }
         ensures state { OnOk result
             (state_of self.new ≡ wave (state_of self.old) (made_by command.now)) }
-        ensures told { IfOk result (λ done. AreTold (state_of self.old) command.now done.deltas) }
+        ensures told { IfOk result
+            (λ done. AreTold (state_of self.old) (made_by command.now) done.deltas) }
         ensures undo { IfOk result (λ done. IsUndo done.undo self.old self.new) }
         ensures limit { self.new.limit ≡ self.old.limit }
         ensures refused { IfErr result (IsRefused self.old.limit (state_of self.old) command.now) }
         ensures err { OnErr result (contents self.new ≡ contents self.old) }
         ensures room { OnErr result (HaveRoomOf self.old.nodes self.new.nodes) }
     {
-        let rollback = rollback_of(
+        self.make_wave(&Cause::Command(command), steps)
+    }
+
+    /// Takes the first queued delta of a proxy, and no more, to each list that depends on it: wholly, or not at all. It
+    /// takes memory for the changes.
+    pub fn pump<L: Ledger>(
+        &mut self,
+        list: u32,
+        steps: &mut Steps<L>,
+    ) -> Result<Wave, PumpFault>
+        requires proxy { IsProxy (own_at (state_of self.old) list) }
+        requires short { too_long self.old.limit (wave (state_of self.old) (made_by_pump list))
+            ≡ None }
+        ensures state { OnOk result
+            (state_of self.new ≡ wave (state_of self.old) (made_by_pump list)) }
+        ensures told { IfOk result
+            (λ done. AreTold (state_of self.old) (made_by_pump list) done.deltas) }
+        ensures undo { IfOk result (λ done. IsUndo done.undo self.old self.new) }
+        ensures limit { self.new.limit ≡ self.old.limit }
+        ensures nothing { (result ≡ Err PumpFault.Nothing)
+            ↔ (queue_of (own_at (state_of self.old) list) ≡ []) }
+        ensures err { OnErr result (contents self.new ≡ contents self.old) }
+        ensures room { OnErr result (HaveRoomOf self.old.nodes self.new.nodes) }
+    {
+        if let Hold::Queued(0) = self.hold(list) {
+            return Err(PumpFault::Nothing);
+        }
+        match self.make_wave(&Cause::Pump(list), steps) {
+            Ok(done) => Ok(done),
+            Err(Refused::Memory) => Err(PumpFault::Memory),
+            Err(_) => unreachable!(),
+        }
+    }
+
+    // A wave, wholly or not at all.
+    fn make_wave<L: Ledger>(
+        &mut self,
+        cause: &Cause<'_>,
+        steps: &mut Steps<L>,
+    ) -> Result<Wave, Refused>
+        requires within { subject (cause_of cause.now) < length (state_of self.old) }
+        requires suits { SuitsCause (cause_of cause.now)
+            (own_at (state_of self.old) (subject (cause_of cause.now))) }
+        ensures moves { OnOk result
+            (unmoved_of self.old.limit (state_of self.old) (cause_of cause.now) ≡ None) }
+        ensures state { OnOk result
+            (state_of self.new ≡ wave (state_of self.old) (cause_of cause.now)) }
+        ensures told { IfOk result
+            (λ done. AreTold (state_of self.old) (cause_of cause.now) done.deltas) }
+        ensures undo { IfOk result (λ done. IsUndo done.undo self.old self.new) }
+        ensures limit { self.new.limit ≡ self.old.limit }
+        ensures refused { IfErr result
+            (IsStopping self.old.limit (state_of self.old) (cause_of cause.now)) }
+        ensures err { OnErr result (contents self.new ≡ contents self.old) }
+        ensures room { OnErr result (HaveRoomOf self.old.nodes self.new.nodes) }
+    {
+        let rollback = match rollback_of(
             self.nodes.as_slice(),
             self.positions.as_slice(),
             self.limit,
-            command,
-        )?;
+            cause,
+        ) {
+            Ok(rollback) => rollback,
+            Err(why) => return Err(why),
+        };
         let mut deltas = Deltas::make(self.alloc, self.positions.len() as u32)?;
         let mut made = Vec::new(self.alloc);
         match spread_all(
@@ -183,7 +247,7 @@ impl Graph {
             &mut self.nodes,
             self.positions.as_slice(),
             self.limit,
-            command,
+            cause,
             &rollback,
             &mut deltas,
             &mut made,
@@ -198,6 +262,32 @@ impl Graph {
                 Err(why)
             }
         }
+    }
+
+    /// Makes room for one more delta in the queue of a proxy.
+    pub fn reserve_queue(&mut self, list: u32) -> Result<(), Memory>
+        requires proxy { IsProxy (own_at (state_of self.old) list) }
+        ensures ok { OnOk result (HasQueueRoom list self.new) }
+        ensures contents { contents self.new ≡ contents self.old }
+        ensures room { HaveRoomOf self.old.nodes self.new.nodes }
+        ensures others { (other : ℕ) → HasQueueRoom other self.old → HasQueueRoom other self.new }
+    {
+        reserve_at(&mut self.nodes, self.positions[list as usize] as usize)?;
+        Ok(())
+    }
+
+    /// Queues a delta for a proxy, which leads on from what its queue leads to. It takes no memory, but room that
+    /// `reserve_queue` made.
+    pub fn queue(&mut self, list: u32, d: Delta)
+        requires leads { LeadsOn d.pieces (own_at (state_of self.old) list) }
+        requires reserved { HasQueueRoom list self.old }
+        ensures state { state_of self.new ≡ slice_set (state_of self.old) list
+            (with_one_queued d.pieces (own_at (state_of self.old) list)) }
+        ensures limit { self.new.limit ≡ self.old.limit }
+        ensures others { (other : ℕ) → other ≢ list
+            → HasQueueRoom other self.old → HasQueueRoom other self.new }
+    {
+        queue_at(&mut self.nodes, self.positions[list as usize] as usize, d);
     }
 
     /// Goes back to where the lists stood before their last change, whose undo this is. It takes no memory, and time for

@@ -5,6 +5,7 @@ ghost use Rattle.spec_states.specs.Tree.{Tree};
 ghost use Rattle.spec_states.specs.Piece.{old_len};
 ghost use Rattle.spec_states.specs.Shown.{is_held, shown_of};
 ghost use Rattle.spec_states.specs.Shown.{undone_all};
+ghost use Rattle.spec_states.specs.Wave.{command as made_by};
 ghost use Rattle.spec_states.specs.Laws.{LedTo};
 ghost use Rattle.gl_source.specs.Found.{found};
 ghost use Rattle.gl_held.specs.Levels.{BeginsWith, IsShown, held_len};
@@ -114,7 +115,7 @@ impl Held {
         ensures ok { IfOk result (HasTaken command.now len self.old self.new) }
         ensures err { OnErr result (contents self.new ≡ contents self.old) }
         ensures refused { (input : ℕ)
-            → IfErr result (IsRefusalOf (own_of_held input self.old) command.now) }
+            → IfErr result (IsRefusalOf (own_of_held input self.old) (made_by command.now)) }
         ensures room { IsNoMore (room_of self.old) (room_of self.new) }
     {
         match self {
@@ -164,7 +165,7 @@ fn level(
         (Held.Transaction transaction.new)) }
     ensures err { OnErr result (transaction.new.levels ≡ transaction.old.levels) }
     ensures refused { (input : ℕ) → IfErr result
-        (IsRefusalOf (own_of_held input (Held.Transaction transaction.old)) command.now) }
+        (IsRefusalOf (own_of_held input (Held.Transaction transaction.old)) (made_by command.now)) }
     ensures room { transaction.old.room ≤ transaction.new.room }
 {
     match command {
@@ -202,7 +203,7 @@ fn freeze(
         (Held.Freezable freezable.new)) }
     ensures err { OnErr result (freezable.new ≡ freezable.old) }
     ensures refused { (input : ℕ) → IfErr result
-        (IsRefusalOf (own_of_held input (Held.Freezable freezable.old)) command.now) }
+        (IsRefusalOf (own_of_held input (Held.Freezable freezable.old)) (made_by command.now)) }
 {
     match command {
         Command::Freeze { list: _ } => match freezable.freeze(len) {

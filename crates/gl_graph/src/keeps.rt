@@ -11,14 +11,17 @@ ghost use Rattle.gl_graph.specs.Held.{deltas_of, contents as held_contents, room
 ghost use Rattle.gl_graph.specs.Holds.{hold_of};
 ghost use Rattle.gl_graph.specs.Lens.{measured, OnLen};
 ghost use Rattle.gl_graph.specs.Spots.{spotted, OnSpot};
+ghost use Rattle.gl_graph.specs.Causes.{CanPump, cause_of};
 ghost use Rattle.gl_graph.specs.Nodes.{own_of, StandsFor, OnInput, AreAmong, IsPlaced, AreSettled, shown_by};
 ghost use Rattle.gl_graph.specs.Graph.{IsLimited};
 ghost use Rattle.gl_graph.specs.Room.{IsNoMore};
 ghost use Rattle.gl_graph.specs.Undos.{contents, before, room_of, room_back, CanRetreat};
+ghost use Rattle.spec_states.specs.Wave.{command as made_by, pump as pumped_by};
 ghost use Rattle.gl_graph.specs.Spread.{CanTurn, CanTakeBack, HasLevel, CanTake, CanFollow, IsStep, IsSourceStep, HasDropped, turned_by, IsOwnStep, IsOtherStep, HasKept, IsStopped, IsSourceStopped, IsOwnStopped, IsOtherStopped};
+ghost use Rattle.gl_graph.specs.declared.graph.Refused.TheVariants as Refused;
 ghost use Rattle.gl_graph.specs.Faults.{IsRefusalByEdit, IsRefusalBy};
 
-use crate::command::about;
+use crate::cause::{Cause, subject};
 use crate::derived::{Derived, DerivedUndo};
 use crate::graph::Refused;
 use crate::held::Held;
@@ -33,7 +36,7 @@ use crate::source::edit_source;
 use crate::spot::Spot;
 use crate::turned::Turned;
 use gl_composite::{Composite, CompositeUndo};
-use gl_held::HeldUndo;
+use gl_held::{HeldUndo, Proxy, PumpFault};
 use gl_kernels::{Delta, Deltas, KernelFault};
 use gl_plan::{Command, Items, Shelf, Steps};
 use gl_source::{EditFault, SourceList, SourceUndo};
@@ -42,7 +45,7 @@ use std::sync::ledger::Ledger;
 
 /// What a list keeps: a source its elements, a list over one input the number of that and what its kind keeps of it, a
 /// composite the lists that it depends on and what it keeps of its members, a list that can be held the number of its input
-/// and what it keeps while it is held.
+/// and what it keeps while it is held, a proxy the number of its input, its copy and its queue.
 #[derive(Drop)]
 pub enum Keeps {
     Source(SourceList),
@@ -58,6 +61,10 @@ pub enum Keeps {
         input: u32,
         held: Held,
     },
+    Proxy {
+        input: u32,
+        proxy: Proxy,
+    },
 }
 
 /// What takes a list back to where it stood before a change. A list that can be held, and isn't, follows unchanged.
@@ -67,6 +74,7 @@ pub enum KeepsUndo {
     Over(DerivedUndo),
     Composite(CompositeUndo),
     Held(HeldUndo),
+    Pumped(HeldUndo),
     Unchanged,
 }
 
@@ -88,6 +96,7 @@ impl Keeps {
                 Some(len) => Len::Is(len),
                 None => Len::As(*input),
             },
+            Keeps::Proxy { input: _, proxy } => Len::Is(proxy.len()),
         }
     }
 
@@ -110,6 +119,10 @@ impl Keeps {
                 composite,
             } => member_spot(composite, position),
             Keeps::Held { input, held } => held.find(*input, position),
+            Keeps::Proxy { input: _, proxy } => match proxy.get(position) {
+                Some(value) => Some(Spot::Own(value)),
+                None => None,
+            },
         }
     }
 
@@ -119,19 +132,19 @@ impl Keeps {
     {
         match self {
             Keeps::Held { input: _, held } => held.hold(),
+            Keeps::Proxy { input: _, proxy } => Hold::Queued(proxy.queued()),
             _ => Hold::Free,
         }
     }
 
-    /// Turns the list of this number in the wave of a command, where the lists before it were turned and this is told of
-    /// them.
+    /// Turns the list of this number in a wave, where the lists before it were turned and this is told of them.
     pub(crate) fn turn<L: Ledger>(
         &mut self,
         alloc: Global,
         list: u32,
         prefix: &[Node],
         positions: &[u32],
-        command: &Command,
+        cause: &Cause<'_>,
         rollback: &Option<Rollback>,
         deltas: &Deltas,
         steps: &mut Steps<L>,
@@ -139,24 +152,24 @@ impl Keeps {
         requires settled { AreSettled prefix.now positions.now }
         requires later { OnInput (IsPlaced prefix.now positions.now) self.old }
         requires among { AreAmong self.old }
-        requires can { CanTurn rollback.now (shown_by prefix.now positions.now) command.now
+        requires can { CanTurn rollback.now (shown_by prefix.now positions.now) (cause_of cause.now)
             deltas.now list self.old }
         ensures ok { IfOk result
-            (IsStep rollback.now (shown_by prefix.now positions.now) command.now deltas.now list self.old self.new) }
+            (IsStep rollback.now (shown_by prefix.now positions.now) (cause_of cause.now) deltas.now list self.old self.new) }
         ensures err { OnErr result (contents self.new ≡ contents self.old) }
         ensures stopped { (limit : ℕ) → IsLimited limit self.old → IfErr result
-            (IsStopped limit rollback.now (shown_by prefix.now positions.now) command.now deltas.now list (own_of self.old)) }
+            (IsStopped limit rollback.now (shown_by prefix.now positions.now) (cause_of cause.now) deltas.now list (own_of self.old)) }
         ensures room { OnErr result (IsNoMore (room_of self.old) (room_of self.new)) }
     {
         if let Some(delta) = delta_for(list, rollback) {
             return self.take_back(list, delta);
         }
-        if list != about(command) {
+        if list != subject(cause) {
             return self.follow(list, prefix, positions, deltas, steps);
         }
         match rollback {
             Some(_) => Ok(self.drop_level()),
-            None => self.take(alloc, list, prefix, positions, command, steps),
+            None => self.begin(alloc, list, prefix, positions, cause, steps),
         }
     }
 
@@ -201,6 +214,52 @@ impl Keeps {
         }
     }
 
+    // The list that a cause is about takes it.
+    fn begin<L: Ledger>(
+        &mut self,
+        alloc: Global,
+        list: u32,
+        prefix: &[Node],
+        positions: &[u32],
+        cause: &Cause<'_>,
+        steps: &mut Steps<L>,
+    ) -> Result<Turned, Refused>
+        requires settled { AreSettled prefix.now positions.now }
+        requires later { OnInput (IsPlaced prefix.now positions.now) self.old }
+        requires among { AreAmong self.old }
+        requires can { CanTake (shown_by prefix.now positions.now) (cause_of cause.now) self.old }
+        ensures ok { IfOk result
+            (IsOwnStep (shown_by prefix.now positions.now) (cause_of cause.now) list self.old self.new) }
+        ensures err { OnErr result (contents self.new ≡ contents self.old) }
+        ensures stopped { (limit : ℕ) → IsLimited limit self.old → IfErr result
+            (IsOwnStopped limit (shown_by prefix.now positions.now) (cause_of cause.now) list (own_of self.old)) }
+        ensures room { OnErr result (IsNoMore (room_of self.old) (room_of self.new)) }
+    {
+        match cause {
+            Cause::Command(command) => self.take(alloc, list, prefix, positions, command, steps),
+            Cause::Pump(_) => self.pump(),
+        }
+    }
+
+    // A proxy takes the first delta of its queue.
+    fn pump(&mut self) -> Result<Turned, Refused>
+        requires { CanPump (own_of self.old) }
+        ensures ok { (shows : ℕ → List Tree) (list number : ℕ)
+            → IfOk result (IsOwnStep shows (pumped_by number) list self.old self.new) }
+        ensures err { OnErr result (contents self.new ≡ contents self.old) }
+        ensures stopped { IfErr result (λ why. why ≡ Refused.Memory) }
+        ensures room { OnErr result (IsNoMore (room_of self.old) (room_of self.new)) }
+    {
+        match self {
+            Keeps::Proxy { input: _, proxy } => match proxy.pump() {
+                Ok((out, undo)) => Ok(Turned::Told(out, KeepsUndo::Pumped(undo))),
+                Err(PumpFault::Memory) => Err(Refused::Memory),
+                Err(PumpFault::Nothing) => unreachable!(),
+            },
+            _ => unreachable!(),
+        }
+    }
+
     // The list that a command is about takes it.
     fn take<L: Ledger>(
         &mut self,
@@ -214,12 +273,12 @@ impl Keeps {
         requires settled { AreSettled prefix.now positions.now }
         requires later { OnInput (IsPlaced prefix.now positions.now) self.old }
         requires among { AreAmong self.old }
-        requires can { CanTake (shown_by prefix.now positions.now) command.now self.old }
+        requires can { CanTake (shown_by prefix.now positions.now) (made_by command.now) self.old }
         ensures ok { IfOk result
-            (IsOwnStep (shown_by prefix.now positions.now) command.now list self.old self.new) }
+            (IsOwnStep (shown_by prefix.now positions.now) (made_by command.now) list self.old self.new) }
         ensures err { OnErr result (contents self.new ≡ contents self.old) }
         ensures stopped { (limit : ℕ) → IsLimited limit self.old → IfErr result
-            (IsOwnStopped limit (shown_by prefix.now positions.now) command.now list (own_of self.old)) }
+            (IsOwnStopped limit (shown_by prefix.now positions.now) (made_by command.now) list (own_of self.old)) }
         ensures room { OnErr result (IsNoMore (room_of self.old) (room_of self.new)) }
     {
         match self {
@@ -247,10 +306,11 @@ impl Keeps {
                     Err(why) => Err(why),
                 }
             }
+            _ => unreachable!(),
         }
     }
 
-    // Any other list follows its inputs, or keeps what they tell.
+    // Any other list follows its inputs, or keeps what they tell; a proxy stays.
     fn follow<L: Ledger>(
         &mut self,
         list: u32,
@@ -293,6 +353,7 @@ impl Keeps {
                 None => Ok(Turned::Stays),
                 Some(d) => Ok(keep(held, d)?),
             },
+            Keeps::Proxy { .. } => Ok(Turned::Stays),
         }
     }
 
@@ -320,6 +381,10 @@ impl Keeps {
             },
             KeepsUndo::Held(undo) => match self {
                 Keeps::Held { input: _, held } => held.retreat(undo),
+                _ => unreachable!(),
+            },
+            KeepsUndo::Pumped(undo) => match self {
+                Keeps::Proxy { input: _, proxy } => proxy.retreat(undo),
                 _ => unreachable!(),
             },
             KeepsUndo::Unchanged => {}

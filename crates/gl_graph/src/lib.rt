@@ -3,6 +3,7 @@
 #![tactic(auto)]
 
 mod build;
+mod cause;
 mod command;
 mod derived;
 mod fault;
@@ -16,6 +17,7 @@ mod node;
 mod open;
 mod over;
 mod position;
+mod queue;
 mod rollback;
 mod seen;
 mod source;
@@ -26,6 +28,7 @@ mod turned;
 
 pub use derived::{Derived, DerivedUndo};
 pub use fault::BuildFault;
+pub use gl_held::PumpFault;
 pub use graph::{Graph, GraphUndo, Refused, Wave};
 pub use held::Held;
 pub use hold::Hold;

@@ -3,14 +3,13 @@
 ghost use Rattle.std.specs.Prelude.{◌≡◌, ◌≤◌, ◌++◌, ◌∷◌, [], ℕ, List, length, IfOk, IfErr, OnOk};
 ghost use Rattle.spec_states.specs.Tree.{Tree};
 ghost use Rattle.std.specs.List.{All};
-ghost use Rattle.spec_states.specs.State.{source as sourcing, composite as composing};
+ghost use Rattle.spec_states.specs.State.{source as sourcing, composite as composing, opening_of};
 ghost use Rattle.spec_states.specs.Composite.{composite_view};
 ghost use Rattle.gl_composite.specs.Stands as composite_stands;
 ghost use Rattle.spec_states.specs.Shown.{shown_of};
-ghost use Rattle.spec_states.specs.Opening.{seen_through};
 ghost use Rattle.gl_graph.specs.Nodes.{own_of, shown_by, StandsFor, AreSettled, IsPlaced};
 ghost use Rattle.gl_graph.specs.Graph.{IsLimited};
-ghost use Rattle.gl_graph.specs.Opening.{IsBuilt, IsOver, IsFaultBy};
+ghost use Rattle.gl_graph.specs.Opening.{OnInputs, IsOver, IsFaultBy};
 
 use crate::derived::Derived;
 use crate::held::Held;
@@ -18,7 +17,7 @@ use crate::keeps::Keeps;
 use crate::node::Node;
 use crate::seen::{len_of, see, shown_len};
 use gl_composite::Composite;
-use gl_held::{Freezable, Transaction};
+use gl_held::{Freezable, Proxy, Transaction};
 use gl_kernels::{
     Collection, Filter, Function, Grouping, KernelFault, RangeKernel, Sorted, Unique,
 };
@@ -37,16 +36,19 @@ pub(crate) fn opened<L: Ledger>(
     steps: &mut Steps<L>,
 ) -> Result<Keeps, OpenFault>
     requires settled { AreSettled prefix.now positions.now }
-    requires built { IsBuilt (IsPlaced prefix.now positions.now) kind.now }
+    requires inputs { OnInputs (IsPlaced prefix.now positions.now) kind.now }
     requires few { limit ≤ 2147483647 }
-    ensures own { IfOk result (λ keeps. own_of keeps ≡ seen_through kind.now) }
+    ensures own { IfOk result (λ keeps.
+        own_of keeps ≡ opening_of (shown_by prefix.now positions.now) kind.now) }
     ensures stands { IfOk result (λ keeps. StandsFor keeps (shown_by prefix.now positions.now)) }
     ensures limited { IfOk result (IsLimited limit) }
     ensures within { OnOk result
-        (length (shown_of (seen_through kind.now) (shown_by prefix.now positions.now)) ≤ limit) }
+        (length (shown_of (opening_of (shown_by prefix.now positions.now) kind.now)
+        (shown_by prefix.now positions.now)) ≤ limit) }
     ensures over { IfErr result
         (IsOver limit
-        (length (shown_of (seen_through kind.now) (shown_by prefix.now positions.now)))) }
+        (length (shown_of (opening_of (shown_by prefix.now positions.now) kind.now)
+        (shown_by prefix.now positions.now)))) }
 {
     let keeps = made(alloc, kind, prefix, positions, limit, steps)?;
     let len = len_of(prefix, positions, &keeps);
@@ -66,14 +68,16 @@ fn made<L: Ledger>(
     steps: &mut Steps<L>,
 ) -> Result<Keeps, OpenFault>
     requires settled { AreSettled prefix.now positions.now }
-    requires built { IsBuilt (IsPlaced prefix.now positions.now) kind.now }
+    requires inputs { OnInputs (IsPlaced prefix.now positions.now) kind.now }
     requires few { limit ≤ 2147483647 }
-    ensures own { IfOk result (λ keeps. own_of keeps ≡ seen_through kind.now) }
+    ensures own { IfOk result (λ keeps.
+        own_of keeps ≡ opening_of (shown_by prefix.now positions.now) kind.now) }
     ensures stands { IfOk result (λ keeps. StandsFor keeps (shown_by prefix.now positions.now)) }
     ensures limited { IfOk result (IsLimited limit) }
     ensures over { IfErr result
         (IsOver limit
-        (length (shown_of (seen_through kind.now) (shown_by prefix.now positions.now)))) }
+        (length (shown_of (opening_of (shown_by prefix.now positions.now) kind.now)
+        (shown_by prefix.now positions.now)))) }
 {
     match kind {
         ListKind::Source { rows } => source_of(alloc, rows, limit),
@@ -132,7 +136,14 @@ fn made<L: Ledger>(
             let freezable = Freezable::make(alloc);
             Ok(held(*input, Held::Freezable(freezable)))
         }
-        _ => unreachable!(),
+        ListKind::Proxy { input } => {
+            let shelf = see(prefix, positions, *input);
+            let proxy = Proxy::make(alloc, &shelf)?;
+            Ok(Keeps::Proxy {
+                input: *input,
+                proxy,
+            })
+        }
     }
 }
 

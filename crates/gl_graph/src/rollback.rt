@@ -2,15 +2,17 @@
 
 ghost use Rattle.std.specs.Prelude.{◌≡◌, ◌<◌, length, IfOk, IfErr};
 ghost use Rattle.std.specs.Option.{option_copied};
-ghost use Rattle.spec_states.specs.Plan.{origin as about};
 ghost use Rattle.spec_states.specs.State.{own_at};
+ghost use Rattle.spec_states.specs.Plan.{origin as about};
+ghost use Rattle.spec_states.specs.Wave.{command as made_by, subject};
 ghost use Rattle.gl_graph.specs.Nodes.{own_of, state_of};
 ghost use Rattle.gl_graph.specs.Graph.{IsGraph};
 ghost use Rattle.gl_graph.specs.Commands.{Suits, CanRollBack};
+ghost use Rattle.gl_graph.specs.Causes.{SuitsCause, cause_of};
 ghost use Rattle.gl_graph.specs.Rollbacks.{IsRollback, IsRollbackOf, IsRefusedOf, IsDeltaFor, start_at};
-ghost use Rattle.gl_graph.specs.Waves.{IsRefused};
+ghost use Rattle.gl_graph.specs.Waves.{IsStopping};
 
-use crate::command::about;
+use crate::cause::{Cause, subject};
 use crate::graph::Refused;
 use crate::held::{Held, close_refusal};
 use crate::keeps::Keeps;
@@ -26,8 +28,29 @@ pub(crate) struct Rollback {
     pub(crate) delta: Delta,
 }
 
-/// What a command takes back, if it is a rollback. It takes memory by the changes of the innermost level.
+/// What a cause takes back, if it is a rollback. It takes memory by the changes of the innermost level.
 pub(crate) fn rollback_of(
+    nodes: &[Node],
+    positions: &[u32],
+    limit: u64,
+    cause: &Cause<'_>,
+) -> Result<Option<Rollback>, Refused>
+    requires graph { IsGraph limit nodes.now positions.now }
+    requires within { subject (cause_of cause.now) < length (state_of nodes.now positions.now) }
+    requires suits { SuitsCause (cause_of cause.now)
+        (own_at (state_of nodes.now positions.now) (subject (cause_of cause.now))) }
+    ensures ok { IfOk result (IsRollback (state_of nodes.now positions.now) (cause_of cause.now)) }
+    ensures refused { IfErr result
+        (IsStopping limit (state_of nodes.now positions.now) (cause_of cause.now)) }
+{
+    match cause {
+        Cause::Command(command) => of_command(nodes, positions, limit, command),
+        Cause::Pump(_) => Ok(None),
+    }
+}
+
+// The same of a command.
+fn of_command(
     nodes: &[Node],
     positions: &[u32],
     limit: u64,
@@ -37,9 +60,10 @@ pub(crate) fn rollback_of(
     requires within { about command.now < length (state_of nodes.now positions.now) }
     requires suits { Suits command.now
         (own_at (state_of nodes.now positions.now) (about command.now)) }
-    ensures ok { IfOk result (IsRollback (state_of nodes.now positions.now) command.now) }
+    ensures ok { IfOk result
+        (IsRollback (state_of nodes.now positions.now) (made_by command.now)) }
     ensures refused { IfErr result
-        (IsRefused limit (state_of nodes.now positions.now) command.now) }
+        (IsStopping limit (state_of nodes.now positions.now) (made_by command.now)) }
 {
     match command {
         Command::Rollback { list } => match taken_back(&node_of(nodes, positions, *list).keeps) {
@@ -50,13 +74,13 @@ pub(crate) fn rollback_of(
     }
 }
 
-/// Where the wave of a command begins.
-pub(crate) fn start_of(command: &Command, rollback: &Option<Rollback>) -> u32
-    ensures { result ≡ start_at rollback.now command.now }
+/// Where a wave begins.
+pub(crate) fn start_of(cause: &Cause<'_>, rollback: &Option<Rollback>) -> u32
+    ensures { result ≡ start_at rollback.now (cause_of cause.now) }
 {
     match rollback {
         Some(rollback) => rollback.source,
-        None => about(command),
+        None => subject(cause),
     }
 }
 

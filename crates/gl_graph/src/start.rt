@@ -1,7 +1,6 @@
 //! How all lists of a plan open.
 
 ghost use Rattle.std.specs.Prelude.{◌≡◌, ◌<◌, ◌+◌, length, IfOk, IfErr, OnOk};
-ghost use Rattle.gl_graph.specs.Opening.{AreKindsBuilt};
 ghost use Rattle.gl_graph.specs.Build.{AreDependencyOrder, AreOpenTo, AllAreOpen, IsReasonOf};
 
 use crate::build::open_next;
@@ -27,7 +26,6 @@ pub(crate) fn dependency_order_of<'a>(
     alloc: Global,
     plan: &'a Plan,
 ) -> Result<DependencyOrder<'a>, Memory>
-    requires { AreKindsBuilt plan.now.lists }
     ensures ready { IfOk result AreDependencyOrder }
     ensures lists { IfOk result (λ dependency_order. dependency_order.lists.now ≡ plan.now.lists) }
     ensures limit { IfOk result (λ dependency_order. dependency_order.limit ≡ plan.now.limit) }

@@ -1,5 +1,6 @@
 use Rattle.std.proofs.Common.{◌≡◌, ◌∙◌, ◌++◌, take, ap, sym, subst}
 use Rattle.std.specs.Prelude.{slice_index_or}
+use Rattle.gl_graph.specs.Causes.{cause_of}
 use Rattle.gl_graph.specs.declared.node.Node.{Node}
 use Rattle.gl_graph.specs.Nodes.{shown_by, OnInput, AreAmong, IsPlaced, AreSettled}
 use Rattle.gl_graph.specs.Spread.{CanTurn}
@@ -40,8 +41,8 @@ turn-requires-clause-can g c =
     let prefix_is : prefix ≡ take c.args.position nodes = c.split_at_mut-prefix.ensures.front ∙ ap (take c.args.position) c.deref_mut.ensures.value in
     let whole : nodes ≡ prefix ++ back = sym c.deref_mut.ensures.value ∙ c.split_at_mut-prefix.ensures.value in
     let first = first_back nodes prefix back c.args.position c.requires.node c.index-back-0.result whole c.split_at_mut-prefix.ensures.front_len c.requires.there in
-    subst (λ (n : Node). CanTurn c.args.rollback.now (shown_by prefix c.args.positions.now) c.args.command.now c.args.deltas.now n.list n.keeps) (sym first)
-    (subst (λ ns. CanTurn c.args.rollback.now (shown_by ns c.args.positions.now) c.args.command.now c.args.deltas.now c.requires.node.list c.requires.node.keeps) (sym prefix_is) c.requires.can)
+    subst (λ (n : Node). CanTurn c.args.rollback.now (shown_by prefix c.args.positions.now) (cause_of c.args.cause.now) c.args.deltas.now n.list n.keeps) (sym first)
+    (subst (λ ns. CanTurn c.args.rollback.now (shown_by ns c.args.positions.now) (cause_of c.args.cause.now) c.args.deltas.now c.requires.node.list c.requires.node.keeps) (sym prefix_is) c.requires.can)
 
 pub returns : goal.returns
 returns g c =
@@ -52,6 +53,6 @@ returns g c =
     let whole : nodes ≡ prefix ++ back = sym c.deref_mut.ensures.value ∙ c.split_at_mut-prefix.ensures.value in
     let first = first_back nodes prefix back c.args.position c.requires.node c.index-back-0.result whole c.split_at_mut-prefix.ensures.front_len c.requires.there in
     let e = c.turn.ensures in
-    tried_at c.args.rollback.now c.args.positions.now c.args.command.now c.args.deltas.now c.args.position c.args.nodes.now.len nodes prefix back c.requires.node (slice_index_or back 0 c.index-back-0.result) c.turn.new.self c.turn.result
+    tried_at c.args.rollback.now c.args.positions.now (cause_of c.args.cause.now) c.args.deltas.now c.args.position c.args.nodes.now.len nodes prefix back c.requires.node (slice_index_or back 0 c.index-back-0.result) c.turn.new.self c.turn.result
     whole prefix_is c.split_at_mut-prefix.ensures.front_len c.args.nodes.now.ok.0 c.requires.there first
     (record { ok = e.ok; err = e.err; stopped = e.stopped; room = e.room })

@@ -33,6 +33,6 @@ returns-clause-ready c =
     let order = c.list_order-order.result.now in
     let positions = c.in_ok-positions.positions.items in
     let ready : AreReady p.limit p.lists positions order =
-    ready_of p positions order lists.plan c.requires c.list_order-order.ensures (c.in_ok-positions.ensures.len ∙ ap length lists.lists)
+    ready_of p positions order lists.plan c.list_order-order.ensures (c.in_ok-positions.ensures.len ∙ ap length lists.lists)
     (subst (λ n. ArePositions positions order n) (ap length lists.lists) c.in_ok-positions.ensures.positions) in
     subst (λ n. AreReady n c.lists-lists.result.now positions order) (sym c.limit-limit.ensures) (subst (λ ds. AreReady p.limit ds positions order) (sym lists.lists) ready)

@@ -1,12 +1,12 @@
 use Rattle.std.proofs.Common.{ℕ, List, ◌≡◌, ◌<◌, length, slice_index_or, refl, sym, rules, add-one, subst}
 use Rattle.std.specs.Prelude.{Some, slice_get}
 use Rattle.std.proofs.lemmas.Option.{slice_get-get_or}
+use Rattle.spec_states.specs.State.{opening_of}
 use Rattle.spec_states.specs.Shown.{shown_of}
-use Rattle.spec_states.specs.Opening.{seen_through}
 use Rattle.gl_graph.specs.Nodes.{shown_by, IsPlaced, AreSettled}
-use Rattle.gl_graph.specs.Opening.{IsBuilt}
+use Rattle.gl_graph.specs.Opening.{OnInputs}
 use Rattle.gl_graph.specs.Build.{IsOneMore, IsFault, AreOpenTo, IsReasonOf}
-use Rattle.gl_graph.proofs.Starts.{next_within, next_built, next_opened, next_reason}
+use Rattle.gl_graph.proofs.Starts.{next_within, inputs_placed, next_opened, next_reason}
 use Rattle.gl_graph.proofs.start.open_at.Goals as goal
 
 -- the list at a place
@@ -24,16 +24,16 @@ pub open_next-requires-clause-settled : goal.open_next-requires-clause-settled
 open_next-requires-clause-settled g c =
     subst (λ ps. AreSettled c.args.nodes.now.items ps) (sym c.as_slice.ensures.value) c.requires.opened.settled
 
-pub open_next-requires-clause-built : goal.open_next-requires-clause-built
-open_next-requires-clause-built g c =
+pub open_next-requires-clause-inputs : goal.open_next-requires-clause-inputs
+open_next-requires-clause-inputs g c =
     let t = c.args.dependency_order.now in
     let list = slice_index_or t.order.now c.args.position 0 in
     let d = slice_index_or t.lists.now list c.index-dependency_order-list.result in
     let here = get_at t.order.now t.order.now c.args.position refl c.requires.within in
     let within = next_within t.limit t.lists.now t.positions.items t.order.now c.args.position list c.requires.ready here in
     let there = slice_get-get_or t.lists.now list c.index-dependency_order-list.result within in
-    subst (λ ps. IsBuilt (IsPlaced c.args.nodes.now.items ps) d.kind) (sym c.as_slice.ensures.value)
-    (next_built t.limit t.lists.now t.positions.items t.order.now c.args.nodes.now.items c.args.position list d c.requires.ready c.requires.opened here there)
+    subst (λ ps. OnInputs (IsPlaced c.args.nodes.now.items ps) d.kind) (sym c.as_slice.ensures.value)
+    (inputs_placed t.limit t.lists.now t.positions.items t.order.now c.args.nodes.now.items c.args.position list d c.requires.ready c.requires.opened here there)
 
 pub returns-in_err-open_next-clause-fault : goal.returns-in_err-open_next-clause-fault
 returns-in_err-open_next-clause-fault g c =
@@ -45,8 +45,8 @@ returns-in_err-open_next-clause-fault g c =
     let here = get_at t.order.now t.order.now c.args.position refl c.requires.within in
     let within = next_within t.limit t.lists.now t.positions.items t.order.now c.args.position list c.requires.ready here in
     let there = slice_get-get_or t.lists.now list c.index-dependency_order-list.result within in
-    let is : IsFault t.limit list (length (shown_of (seen_through d.kind) (shown_by nodes t.positions.items))) fault =
-    subst (λ ps. IsFault t.limit list (length (shown_of (seen_through d.kind) (shown_by nodes ps))) fault) c.as_slice.ensures.value c.in_err-open_next.ensures.fault in
+    let is : IsFault t.limit list (length (shown_of (opening_of (shown_by nodes t.positions.items) d.kind) (shown_by nodes t.positions.items))) fault =
+    subst (λ ps. IsFault t.limit list (length (shown_of (opening_of (shown_by nodes ps) d.kind) (shown_by nodes ps))) fault) c.as_slice.ensures.value c.in_err-open_next.ensures.fault in
     let reason : IsReasonOf t fault =
     next_reason t.limit t.lists.now t.positions.items t.order.now nodes c.args.position list d fault c.requires.ready c.requires.opened here there is in
     search rules
@@ -61,7 +61,7 @@ returns-clause-opened g c =
     let here = get_at t.order.now t.order.now c.args.position refl c.requires.within in
     let within = next_within t.limit t.lists.now t.positions.items t.order.now c.args.position list c.requires.ready here in
     let there = slice_get-get_or t.lists.now list c.index-dependency_order-list.result within in
-    let more : IsOneMore t.limit t.positions.items list (seen_through d.kind) nodes after =
-    subst (λ ps. IsOneMore t.limit ps list (seen_through d.kind) nodes after) c.as_slice.ensures.value c.in_ok-open_next.ensures.more in
+    let more : IsOneMore t.limit t.positions.items list (opening_of (shown_by nodes t.positions.items) d.kind) nodes after =
+    subst (λ ps. IsOneMore t.limit ps list (opening_of (shown_by nodes ps) d.kind) nodes after) c.as_slice.ensures.value c.in_ok-open_next.ensures.more in
     subst (λ k. AreOpenTo t k after) (sym (add-one c.args.position))
     (next_opened t.limit t.lists.now t.positions.items t.order.now nodes after c.args.position list d c.requires.ready c.requires.opened here there more)

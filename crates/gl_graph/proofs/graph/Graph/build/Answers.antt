@@ -1,8 +1,7 @@
-use Rattle.std.proofs.Common.{◌≡◌, ◌∙◌, None, rules, ap, sym, subst}
+use Rattle.std.proofs.Common.{◌≡◌, ◌∙◌, None, rules, ap, subst}
 use Rattle.spec_states.specs.Opening.{opening}
 use Rattle.spec_states.specs.Step.{too_long}
 use Rattle.gl_graph.specs.Build.{IsReason, opened_lists}
-use Rattle.gl_graph.proofs.Starts.{opening_is}
 use Rattle.gl_graph.proofs.graph.Graph.build.Goals as goal
 
 pub returns-in_err-nodes-clause-fault : goal.returns-in_err-nodes-clause-fault
@@ -10,19 +9,15 @@ returns-in_err-nodes-clause-fault c =
     let plan = c.args.plan.now in
     let fault = c.in_err-nodes.field-0.0 in
     let reason : IsReason plan.limit (opening plan) fault =
-    subst (λ s. IsReason plan.limit s fault) (sym (opening_is plan c.requires))
-    (subst (λ limit. IsReason limit (opened_lists plan.lists) fault) c.in_ok-dependency_order.ensures.limit
-    (subst (λ lists. IsReason c.in_ok-dependency_order.dependency_order.limit (opened_lists lists) fault) c.in_ok-dependency_order.ensures.lists c.in_err-nodes.ensures.fault)) in
+    subst (λ limit. IsReason limit (opened_lists plan.lists) fault) c.in_ok-dependency_order.ensures.limit
+    (subst (λ lists. IsReason c.in_ok-dependency_order.dependency_order.limit (opened_lists lists) fault) c.in_ok-dependency_order.ensures.lists c.in_err-nodes.ensures.fault) in
     search rules
 
 pub returns-clause-state : goal.returns-clause-state
-returns-clause-state c =
-    let plan = c.args.plan.now in
-    c.in_ok-nodes.ensures.open.state_is ∙ (ap opened_lists c.in_ok-dependency_order.ensures.lists ∙ sym (opening_is plan c.requires))
+returns-clause-state c = c.in_ok-nodes.ensures.open.state_is ∙ ap opened_lists c.in_ok-dependency_order.ensures.lists
 
 pub returns-clause-within : goal.returns-clause-within
 returns-clause-within c =
     let plan = c.args.plan.now in
-    subst (λ s. too_long plan.limit s ≡ None) (sym (opening_is plan c.requires))
-    (subst (λ limit. too_long limit (opened_lists plan.lists) ≡ None) c.in_ok-dependency_order.ensures.limit
-    (subst (λ lists. too_long c.in_ok-dependency_order.dependency_order.limit (opened_lists lists) ≡ None) c.in_ok-dependency_order.ensures.lists c.in_ok-nodes.ensures.open.few))
+    subst (λ limit. too_long limit (opened_lists plan.lists) ≡ None) c.in_ok-dependency_order.ensures.limit
+    (subst (λ lists. too_long c.in_ok-dependency_order.dependency_order.limit (opened_lists lists) ≡ None) c.in_ok-dependency_order.ensures.lists c.in_ok-nodes.ensures.open.few)

@@ -1,142 +1,20 @@
-use Rattle.std.proofs.Common.{◌≡◌, ◌<◌, ◌∙◌, [], length, replicate, ap, sym, subst, arith}
-use Rattle.std.specs.Prelude.{None, slice_index}
+use Rattle.std.proofs.Common.{◌≡◌, sym, subst}
+use Rattle.std.specs.Prelude.{None, IfErr, OnOk}
 use Rattle.spec_states.specs.Plan.{origin as about}
 use Rattle.spec_states.specs.State.{own_at}
-use Rattle.spec_states.specs.Step.{unmoved}
-use Rattle.spec_states.specs.Wave.{command as made_by, wave}
-use Rattle.gl_graph.specs.Nodes.{state_of as state_in}
-use Rattle.gl_graph.specs.Commands.{Suits}
-use Rattle.gl_graph.specs.Rollbacks.{start_at}
-use Rattle.gl_graph.specs.Graph.{Kept, state_of, IsGraph}
-use Rattle.gl_graph.specs.Waves.{AreTold, by_position, HaveRoomOf}
-use Rattle.gl_graph.specs.Spread.{IsSpread}
-use Rattle.gl_graph.proofs.Alike.{graph_same}
-use Rattle.gl_graph.proofs.Ends.{begun_of, start_low, spread_ends}
-use Rattle.gl_graph.proofs.Rollbacks.{start_within}
-use Rattle.gl_graph.proofs.Steps.{begins}
-use Rattle.gl_graph.proofs.Progress.{room_on}
+use Rattle.gl_graph.specs.Graph.{state_of}
+use Rattle.gl_graph.specs.Waves.{IsReply}
+use Rattle.gl_graph.proofs.WholeWaves.{unmoved_is}
 use Rattle.gl_graph.proofs.graph.Graph.wave.Goals as goal
 
-pub rollback_of-requires-clause-graph : goal.rollback_of-requires-clause-graph
-rollback_of-requires-clause-graph g c =
-    let k = c.self.inside in
-    subst (λ ns. IsGraph k.limit ns c.as_slice-2.result.now) (sym c.as_slice.ensures.value)
-    (subst (IsGraph k.limit k.nodes.items) (sym c.as_slice-2.ensures.value) c.self.invariant)
-
-pub rollback_of-requires-clause-within : goal.rollback_of-requires-clause-within
-rollback_of-requires-clause-within g c =
-    let k = c.self.inside in
+pub returns-clause-moves : goal.returns-clause-moves
+returns-clause-moves g c =
+    let s = state_of c.args.self.now in
     let command = c.args.command.now in
-    let here = subst (λ (m : Kept). about command < length (state_of m)) (sym c.self.view_is) c.requires.within in
-    subst (λ ns. about command < length (state_in ns c.as_slice-2.result.now)) (sym c.as_slice.ensures.value)
-    (subst (λ ps. about command < length (state_in k.nodes.items ps)) (sym c.as_slice-2.ensures.value) here)
+    subst (λ r. OnOk c.make_wave.result (r ≡ None)) (sym (unmoved_is c.args.self.now.limit s command (own_at s (about command)) c.requires.suits)) c.make_wave.ensures.moves
 
-pub rollback_of-requires-clause-suits : goal.rollback_of-requires-clause-suits
-rollback_of-requires-clause-suits g c =
-    let k = c.self.inside in
+pub returns-clause-refused : goal.returns-clause-refused
+returns-clause-refused g c =
+    let s = state_of c.args.self.now in
     let command = c.args.command.now in
-    let here = subst (λ (m : Kept). Suits command (own_at (state_of m) (about command))) (sym c.self.view_is) c.requires.suits in
-    subst (λ ns. Suits command (own_at (state_in ns c.as_slice-2.result.now) (about command))) (sym c.as_slice.ensures.value)
-    (subst (λ ps. Suits command (own_at (state_in k.nodes.items ps) (about command))) (sym c.as_slice-2.ensures.value) here)
-
-pub spread_all-requires-clause-within : goal.spread_all-requires-clause-within
-spread_all-requires-clause-within g c =
-    let k = c.self.inside in
-    let command = c.args.command.now in
-    let rollback = c.in_ok-rollback.rollback in
-    let begun = begun_of k.limit k.nodes.items k.positions.items command rollback c.as_slice.result.now c.as_slice-2.result.now c.self.invariant
-    (subst (λ (m : Kept). about command < length (state_of m)) (sym c.self.view_is) c.requires.within)
-    (subst (λ (m : Kept). Suits command (own_at (state_of m) (about command))) (sym c.self.view_is) c.requires.suits)
-    c.as_slice.ensures.value c.as_slice-2.ensures.value c.in_ok-rollback.ensures.ok in
-    subst (λ ps. start_at rollback command < length ps) (sym c.as_slice-3.ensures.value) (start_within k.limit k.nodes.items k.positions.items command rollback begun)
-
-pub spread_all-requires-clause-low : goal.spread_all-requires-clause-low
-spread_all-requires-clause-low g c =
-    let k = c.self.inside in
-    let command = c.args.command.now in
-    let rollback = c.in_ok-rollback.rollback in
-    let begun = begun_of k.limit k.nodes.items k.positions.items command rollback c.as_slice.result.now c.as_slice-2.result.now c.self.invariant
-    (subst (λ (m : Kept). about command < length (state_of m)) (sym c.self.view_is) c.requires.within)
-    (subst (λ (m : Kept). Suits command (own_at (state_of m) (about command))) (sym c.self.view_is) c.requires.suits)
-    c.as_slice.ensures.value c.as_slice-2.ensures.value c.in_ok-rollback.ensures.ok in
-    let low : slice_index k.positions.items (start_at rollback command) < length k.nodes.items =
-    start_low k.limit k.nodes.items k.positions.items (start_at rollback command) c.self.invariant (start_within k.limit k.nodes.items k.positions.items command rollback begun) in
-    let here : slice_index c.as_slice-3.result.now (start_at rollback command) < length k.nodes.items =
-    subst (λ ps. slice_index ps (start_at rollback command) < length k.nodes.items) (sym c.as_slice-3.ensures.value) low in
-    omega (arith, here)
-
-pub spread_all-requires-clause-begins : goal.spread_all-requires-clause-begins
-spread_all-requires-clause-begins g c =
-    let k = c.self.inside in
-    let nodes = k.nodes.items in
-    let positions = k.positions.items in
-    let command = c.args.command.now in
-    let rollback = c.in_ok-rollback.rollback in
-    let begun = begun_of k.limit nodes positions command rollback c.as_slice.result.now c.as_slice-2.result.now c.self.invariant
-    (subst (λ (m : Kept). about command < length (state_of m)) (sym c.self.view_is) c.requires.within)
-    (subst (λ (m : Kept). Suits command (own_at (state_of m) (about command))) (sym c.self.view_is) c.requires.suits)
-    c.as_slice.ensures.value c.as_slice-2.ensures.value c.in_ok-rollback.ensures.ok in
-    let lists : c.len.result ≡ length positions = omega (arith, c.len.ensures) in
-    let told = subst (λ n. c.in_ok-deltas.deltas ≡ replicate n None) lists c.in_ok-deltas.ensures in
-    subst (λ ps. IsSpread k.limit nodes ps command rollback (slice_index ps (start_at rollback command)) nodes c.in_ok-deltas.deltas c.new-made.result.items) (sym c.as_slice-3.ensures.value)
-    (begins k.limit nodes positions command rollback c.in_ok-deltas.deltas c.new-made.result.items begun told c.new-made.ensures.items)
-
-pub invariant_of-self : goal.invariant_of-self
-invariant_of-self g c =
-    let k = c.self.inside in
-    let nodes = k.nodes.items in
-    let command = c.args.command.now in
-    let new = c.spread_all.new in
-    let rollback = c.in_ok-rollback.rollback in
-    let spread = subst (λ ps. IsSpread k.limit nodes ps command rollback (length nodes) new.nodes.items new.deltas new.made.items) c.as_slice-3.ensures.value c.in-Ok.ensures.spread in
-    let done = spread_ends k.limit nodes k.positions.items command rollback new.nodes.items new.deltas new.made.items spread in
-    done.graph
-
-pub returns-in-Ok-clause-moves : goal.returns-in-Ok-clause-moves
-returns-in-Ok-clause-moves g c =
-    let k = c.self.inside in
-    let nodes = k.nodes.items in
-    let command = c.args.command.now in
-    let new = c.spread_all.new in
-    let rollback = c.in_ok-rollback.rollback in
-    let spread = subst (λ ps. IsSpread k.limit nodes ps command rollback (length nodes) new.nodes.items new.deltas new.made.items) c.as_slice-3.ensures.value c.in-Ok.ensures.spread in
-    let done = spread_ends k.limit nodes k.positions.items command rollback new.nodes.items new.deltas new.made.items spread in
-    subst (λ (m : Kept). unmoved m.limit (state_of m) command ≡ None) c.self.view_is done.moves
-
-pub returns-in-Ok-clause-state : goal.returns-in-Ok-clause-state
-returns-in-Ok-clause-state g c =
-    let k = c.self.inside in
-    let nodes = k.nodes.items in
-    let command = c.args.command.now in
-    let new = c.spread_all.new in
-    let rollback = c.in_ok-rollback.rollback in
-    let spread = subst (λ ps. IsSpread k.limit nodes ps command rollback (length nodes) new.nodes.items new.deltas new.made.items) c.as_slice-3.ensures.value c.in-Ok.ensures.spread in
-    let done = spread_ends k.limit nodes k.positions.items command rollback new.nodes.items new.deltas new.made.items spread in
-    done.state ∙ ap (λ (m : Kept). wave (state_of m) (made_by command)) c.self.view_is
-
-pub returns-in-Ok-clause-told : goal.returns-in-Ok-clause-told
-returns-in-Ok-clause-told g c =
-    let k = c.self.inside in
-    let nodes = k.nodes.items in
-    let command = c.args.command.now in
-    let new = c.spread_all.new in
-    let rollback = c.in_ok-rollback.rollback in
-    let spread = subst (λ ps. IsSpread k.limit nodes ps command rollback (length nodes) new.nodes.items new.deltas new.made.items) c.as_slice-3.ensures.value c.in-Ok.ensures.spread in
-    let done = spread_ends k.limit nodes k.positions.items command rollback new.nodes.items new.deltas new.made.items spread in
-    subst (λ (m : Kept). AreTold (state_of m) command new.deltas) c.self.view_is done.told_is
-
-pub invariant_of-self-in-Err : goal.invariant_of-self-in-Err
-invariant_of-self-in-Err g c =
-    let k = c.self.inside in
-    let lead = c.in-Err.ensures.back.lead in
-    let e = c.take_back.ensures in
-    graph_same k.limit k.nodes.items c.take_back.new.nodes.items k.positions.items (sym (e.numbers ∙ lead.numbers_are)) (sym (e.back ∙ lead.back)) c.self.invariant
-
-pub returns-clause-room : goal.returns-clause-room
-returns-clause-room g c =
-    let k = c.self.inside in
-    let mid = c.spread_all.new.nodes.items in
-    let now = c.take_back.new.nodes.items in
-    let lead = c.in-Err.ensures.back.lead in
-    let undos = by_position (length mid) c.spread_all.new.made.items in
-    subst (λ (m : Kept). HaveRoomOf m.nodes now) c.self.view_is (room_on [] undos [] k.nodes.items mid now (sym lead.numbers_are) lead.room c.take_back.ensures.room)
+    subst (λ r. IfErr c.make_wave.result (IsReply r)) (sym (unmoved_is c.args.self.now.limit s command (own_at s (about command)) c.requires.suits)) c.make_wave.ensures.refused

@@ -1,5 +1,6 @@
 use Rattle.std.proofs.Common.{sym, subst, arith}
 use Rattle.gl_graph.specs.declared.keeps.Keeps.TheVariants.{Held}
+use Rattle.spec_states.specs.Wave.{command as made_by}
 use Rattle.gl_graph.specs.Nodes.{own_of, shown_by, OnInput, AreAmong, StandsFor, IsPlaced}
 use Rattle.gl_graph.specs.Held.{deltas_of}
 use Rattle.gl_graph.specs.Spread.{IsOwnStep, IsRefusalOf}
@@ -36,7 +37,7 @@ returns-in-Err-take-clause-stopped g c = λ limit limited.
     let shows = shown_by c.args.prefix.now c.args.positions.now in
     let command = c.args.command.now in
     own_stopped limit shows command c.args.list (own_of c.args.self.now) c.in-Err-take.why
-    (subst (λ k. IsRefusalOf (own_of k) command c.in-Err-take.why) (sym of.is) (c.in-Err-take.ensures.refused of.input))
+    (subst (λ k. IsRefusalOf (own_of k) (made_by command) c.in-Err-take.why) (sym of.is) (c.in-Err-take.ensures.refused of.input))
 
 pub returns-in-Ok-take-clause-ok : goal.returns-in-Ok-take-clause-ok
 returns-in-Ok-take-clause-ok g c =
@@ -44,6 +45,6 @@ returns-in-Ok-take-clause-ok g c =
     let shows = shown_by c.args.prefix.now c.args.positions.now in
     let command = c.args.command.now in
     let done = c.in-Ok-take in
-    subst (λ k. IsOwnStep shows command c.args.list k (Held of.input c.take.new.self) c.turned.result) (sym of.is)
-    (subst (IsOwnStep shows command c.args.list (Held of.input of.held) (Held of.input c.take.new.self)) (sym c.turned.ensures)
+    subst (λ k. IsOwnStep shows (made_by command) c.args.list k (Held of.input c.take.new.self) c.turned.result) (sym of.is)
+    (subst (IsOwnStep shows (made_by command) c.args.list (Held of.input of.held) (Held of.input c.take.new.self)) (sym c.turned.ensures)
     (taken_step command shows c.args.list of.input c.shown_len-len.result of.held c.take.new.self done.told done.undo c.shown_len-len.ensures done.ensures.ok))
