@@ -14,7 +14,6 @@ pub mod Lengths
 pub mod Within
 pub mod Pumps
 pub mod Limits
-pub mod Built
 pub mod Follows
 pub mod Proxies
 pub mod Finish

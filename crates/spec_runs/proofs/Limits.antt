@@ -37,7 +37,8 @@ use Rattle.spec_states.proofs.Openings.{length-opening, opening_shows}
 
 -- ---- an entry
 
-deed_within : (p : Plan) (s : State) (before : List Actor) (a : Actor) → IsWellFormed p
+-- what an actor does next leaves no list too long
+pub deed_within : (p : Plan) (s : State) (before : List Actor) (a : Actor) → IsWellFormed p
     → KeepsKinds (opening p) s → IsSound s → IsFew p.limit s
     → too_long p.limit (outcome p.limit s (next_deed p before a)).state ≡ None
 deed_within p s before (Writer w) formed keeps sound few =
@@ -85,10 +86,10 @@ queued_few limit before now deltas list sound lead none (transaction input level
 queued_few limit before now deltas list sound lead none (freezable input since) within q r = tt
 
 -- a state of a run in which no list is too long
-record Holds (p : Plan) (s : State) : Type 0 where
-  rests : IsAtRest s
-  keeps : KeepsKinds (opening p) s
-  few : IsFew p.limit s
+pub record Holds (p : Plan) (s : State) : Type 0 where
+  pub rests : IsAtRest s
+  pub keeps : KeepsKinds (opening p) s
+  pub few : IsFew p.limit s
 
 entry_holds : (p : Plan) (r : Run) (a : Actor) → IsWellFormed p → Holds p r.state
     → Holds p (entry p r a).state
@@ -176,13 +177,19 @@ run_from_holds : (p : Plan) (r : Run) (order : List Actor) → IsWellFormed p �
 run_from_holds p r [] formed h = h
 run_from_holds p r (a ∷ order) formed h = run_from_holds p (entry p r a) order formed (entry_holds p r a formed h)
 
--- where no list of a plan opens too long, none is after any run
+-- where no list of a plan opens too long, each state of its runs holds
+pub run_holds : (p : Plan) (order : List Actor) → IsWellFormed p → IsAcyclic p
+    → too_long p.limit (opening p) ≡ None → Holds p (run p order).state
+run_holds p order formed free none =
+    let opens : Holds p (opening p) =
+    record { rests = opening_rests p formed free; keeps = keeps_same (opening p); few = opening_few p formed free none } in
+    run_from_holds p (start p) order formed opens
+
+-- and no list is too long in it
 pub run_within : (p : Plan) (order : List Actor) → IsWellFormed p → IsAcyclic p
     → too_long p.limit (opening p) ≡ None → too_long p.limit (run p order).state ≡ None
 run_within p order formed free none =
-    let opens : Holds p (opening p) =
-    record { rests = opening_rests p formed free; keeps = keeps_same (opening p); few = opening_few p formed free none } in
-    let ends : Holds p (run p order).state = run_from_holds p (start p) order formed opens in
+    let ends : Holds p (run p order).state = run_holds p order formed free none in
     let few : IsFew p.limit (run p order).state = ends.few in
     few.lists
 

@@ -7,7 +7,6 @@ pub mod Closing
 pub mod Prefix
 pub mod Cost
 pub mod Kinds
-pub mod Built
 pub mod Laws
 pub mod Rows
 pub mod RowsWords

@@ -16,7 +16,6 @@ use Rattle.spec_states.specs.Shown.{table_of}
 use Rattle.spec_runs.specs.Telling.{Telling, listener_dependency_order}
 use Rattle.spec_runs.specs.Run.{run, left_to, replies_at, shown_after}
 use Rattle.spec_runs.specs.Fits.{first_bad_place, no_section, no_proxy, no_writer}
-use Rattle.spec_runs.specs.Built.{is_built}
 
 -- a source with the row 1 whose lists may have two elements, and one section: addall s [2,3], add s 2, show s
 abbrev pub short : Plan
@@ -90,9 +89,6 @@ watched sections = record {
   writers = sections ∷ [];
 }
 
-watched_is_built : is_built (watched []) ≡ true
-watched_is_built = refl
-
 -- who was told, where, and which changes
 abbrev as_told : List Telling → List (ℕ × ℕ × List Change)
 as_told [] = []
@@ -157,10 +153,6 @@ told_after_told :
     ∷ (0, 0, insertion 0 (num (pos 1)) ∷ [])
     ∷ []
 told_after_told = refl
-
--- listeners of all kinds are built
-told_after_is_built : is_built told_after ≡ true
-told_after_is_built = refl
 
 -- an echo listener tries to write back once in each telling
 abbrev echoed : Plan
