@@ -5,7 +5,6 @@ pub mod Summary
 pub use Rattle.spec_runs.proofs.Runs
 pub use Rattle.spec_states.proofs.Views
 pub use Rattle.spec_runs.proofs.KeptKinds
-pub use Rattle.spec_runs.proofs.Built
 pub use Rattle.spec_plan_texts.proofs.Rewritten
 pub use Rattle.spec_plans.proofs.Sound
 pub use Rattle.spec_runs.proofs.Heard

@@ -1,5 +1,5 @@
 -- What a call answers for its words and the bytes of its source.
-use Rattle.std.specs.Prelude.{⊤, ◌≡◌, ◌<◌, ◌≤◌, ℕ, List, [], ◌∷◌, ◌++◌, length, codes, decimal, if◌then◌else◌, Option, Some, None}
+use Rattle.std.specs.Prelude.{⊤, ◌≡◌, ◌<◌, ◌≤◌, ℕ, List, [], ◌∷◌, ◌++◌, length, codes, decimal, Option, Some, None}
 use Rattle.gl_outside.specs.declared.gate.Actor.{Actor}
 use Rattle.gl_lines.specs.declared.fault.PlanKind.{PlanKind}
 use Rattle.gl_lines.specs.declared.fault.PlanKind.TheVariants as kind
@@ -11,22 +11,19 @@ use Rattle.spec_plan_texts.specs.Text.{SpellsPlan, FirstFault, SpellsCycle}
 use Rattle.spec_plan_texts.specs.Canonical.{spelled_plan}
 use Rattle.spec_states.specs.Opening.{opening}
 use Rattle.spec_states.specs.Step.{too_long as first_too_long}
-use Rattle.spec_runs.specs.Built.{is_built}
 use Rattle.spec_runs.specs.Fits.{BadPlace, Reason, no_writer, no_section, no_proxy, empty_queue, first_bad_place}
 use Rattle.spec_reports.specs.Report.{line_feed, report, list_name}
 use Rattle.spec_reports.specs.Big.{big_plan, big_order, big_summary}
 use Rattle.spec_reports.specs.Words.{Request, check, replay, run, big, Asks, HaveNoForm}
 
 -- What a call comes to: words without a form, too many bytes, a text that is no plan for its first fault or its first cycle,
--- the one text of a plan, a plan of which a part isn't built, a list that opens too long, a bad place of the order, or the
--- report.
+-- the one text of a plan, a list that opens too long, a bad place of the order, or the report.
 pub data Outcome : Type 0 where
   usage : Outcome
   too_large : Outcome
   faulty : FaultAt → Outcome
   circular : List (List ℕ) → Outcome
   written : List ℕ → Outcome
-  unbuilt : Outcome
   too_long : List ℕ → ℕ → Outcome
   misfit : BadPlace → Outcome
   reported : List ℕ → Outcome
@@ -47,8 +44,7 @@ opened p order other = taken p order (first_bad_place p order)
 
 -- what the replay of a plan in an order comes to
 abbrev pub replayed : Plan → List Actor → Outcome
-replayed p order =
-    if is_built p then opened p order (first_too_long p.limit (opening p)) else unbuilt
+replayed p order = opened p order (first_too_long p.limit (opening p))
 
 -- what a request for a plan comes to; the actors of a run take the lock in the order taken
 abbrev pub answer_of : Request → List Actor → Plan → Outcome
@@ -117,7 +113,6 @@ text_of_outcome (faulty f) =
     ++ kind_text f.kind ++ line_feed
 text_of_outcome (circular names) = codes "plan: cycle" ++ spaced names ++ line_feed
 text_of_outcome (written text) = text
-text_of_outcome unbuilt = codes "plan: unbuilt\n"
 text_of_outcome (too_long name len) =
     codes "too-long " ++ name ++ codes " " ++ decimal len ++ line_feed
 text_of_outcome (misfit bad) =

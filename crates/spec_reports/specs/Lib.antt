@@ -37,7 +37,6 @@ pub use Rattle.gl_lines.specs.declared.reply.Reply
 pub use Rattle.spec_syntax.specs.Cuts
 pub use Rattle.spec_plan_texts.specs.Canonical
 pub use Rattle.spec_plan_texts.specs.Short
-pub use Rattle.spec_runs.specs.Built
 pub use Rattle.spec_states.specs.Delta
 pub use Rattle.spec_plans.specs.Cycles
 pub use Rattle.spec_plans.specs.PlanNames

@@ -12,7 +12,7 @@ use Rattle.spec_runs.specs.Rows.{short, watched, pair, number_above}
 use Rattle.spec_reports.specs.Order.{spelled_order}
 use Rattle.spec_reports.specs.Event.{changes_text}
 use Rattle.spec_reports.specs.Report.{report}
-use Rattle.spec_reports.specs.Answer.{too_long, unbuilt, misfit, replayed, text_of_outcome}
+use Rattle.spec_reports.specs.Answer.{too_long, misfit, replayed, text_of_outcome}
 
 orders : spelled_order (Writer 0 ∷ Proxy 12 ∷ []) ≡ codes "w0,p12"
 unfolding digits
@@ -67,18 +67,3 @@ short_again_text : text_of_outcome (misfit (record { place = 1; reason = no_sect
     ≡ codes "order: place 1: no-section\n"
 unfolding digits
 short_again_text = refl
-
--- a proxy isn't built yet
-abbrev proxied : Plan
-proxied = record {
-  limit = 1;
-  lists =
-      record { name = codes "s"; kind = kinds.Source [] }
-      ∷ record { name = codes "p"; kind = kinds.Proxy 0 }
-      ∷ [];
-  listeners = [];
-  writers = [];
-}
-
-proxied_answer : replayed proxied [] ≡ unbuilt
-proxied_answer = refl

@@ -5,7 +5,7 @@ use Rattle.gl_outside.specs.declared.gate.Actor.TheVariants.{Writer, Proxy}
 use Rattle.spec_runs.specs.Fits.{empty_queue}
 use Rattle.spec_runs.specs.RowsProxies.{forwarded}
 use Rattle.spec_reports.specs.Report.{report}
-use Rattle.spec_reports.specs.Answer.{misfit, text_of_outcome}
+use Rattle.spec_reports.specs.Answer.{misfit, replayed, text_of_outcome}
 
 -- three elements, of which the proxy has taken one
 forwarded_report :
@@ -34,6 +34,12 @@ unfolding digits
 all_forwarded_report = refl
 
 -- there is nothing left to take
+nothing_left :
+    replayed forwarded
+    (Writer 0 ∷ Writer 0 ∷ Proxy 0 ∷ Writer 0 ∷ Proxy 0 ∷ Proxy 0 ∷ Proxy 0 ∷ [])
+    ≡ misfit (record { place = 6; reason = empty_queue })
+nothing_left = refl
+
 nothing_left_text :
     text_of_outcome (misfit (record { place = 6; reason = empty_queue }))
     ≡ codes "order: place 6: empty-queue\n"
