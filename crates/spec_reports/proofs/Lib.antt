@@ -11,3 +11,4 @@ pub use Rattle.spec_runs.proofs.Heard
 pub use Rattle.spec_runs.proofs.ToldAfter
 pub use Rattle.spec_runs.proofs.Ordered
 pub use Rattle.spec_runs.proofs.HeldLists
+pub use Rattle.spec_runs.proofs.Proxies
