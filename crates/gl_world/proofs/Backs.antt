@@ -13,7 +13,7 @@ like_same k = record { same = refl; room = room_same k.nodes }
 same_numbers : (a b : Kept) → contents b ≡ contents a → numbers a.nodes ≡ numbers b.nodes
 same_numbers a b e = ap (λ (c : Contents). c.numbers) (sym e)
 
-like_on : (a b c : Kept) → IsLike a b → IsLike b c → IsLike a c
+pub like_on : (a b c : Kept) → IsLike a b → IsLike b c → IsLike a c
 like_on a b c h k = record {
   same = k.same ∙ h.same;
   room = room_on [] [] [] a.nodes b.nodes c.nodes (same_numbers a b h.same) h.room k.room;

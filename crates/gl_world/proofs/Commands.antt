@@ -13,7 +13,7 @@ use Rattle.gl_delta.specs.Model.{DeltaModel}
 use Rattle.spec_states.specs.Plan.{origin as about}
 use Rattle.spec_states.specs.State.{State, own_at}
 use Rattle.spec_states.specs.Shown.{Table, shows_in, table_of, shown}
-use Rattle.spec_states.specs.Wave.{Deltas, delta_in, wave, wave_deltas, command as made_by}
+use Rattle.spec_states.specs.Wave.{Cause, Deltas, delta_in, wave, wave_deltas, command as made_by}
 use Rattle.spec_states.specs.Step.{step, unmoved}
 use Rattle.spec_states.specs.Laws.{IsSound, Lead}
 use Rattle.spec_states.proofs.Views.{length-table_of}
@@ -86,7 +86,7 @@ joined_one p q r xs ys zs (Some d) (Some e) (Some m) dp dq np nq is ha hb j =
 -- one that changes something joins what is told of the lists
 pub deltas_joined : (limit : ℕ) (s : State) (command : Command) (old next new : List (Option DeltaModel)) → IsSound s
     → Suits command (own_at s (about command))
-    → unmoved limit s command ≡ None → AreTold s command next → AreJoined old next new
+    → unmoved limit s command ≡ None → AreTold s (made_by command) next → AreJoined old next new
     → GoOn limit s command old new
 deltas_joined limit s command old next new sound suits e told joined start deltas lead are = record {
   long = joined.long ∙ are.long;
@@ -148,7 +148,7 @@ meets q ys zs (Some d) (Some e) dq reach told = ap old_len told.0 ∙ old_len_le
 -- and those of a command lead on from there
 pub are_meeting : (limit : ℕ) (s : State) (command : Command) (old next : List (Option DeltaModel)) → IsSound s
     → Suits command (own_at s (about command)) → unmoved limit s command ≡ None → Reach old s
-    → AreTold s command next → AreMeeting old next
+    → AreTold s (made_by command) next → AreMeeting old next
 are_meeting limit s command old next sound suits e reach told list within =
     let there : list < length s = omega (arith, within, reach.long) in
     let led : Lead (step limit s command).deltas (table_of s) (table_of (step limit s command).state) =
@@ -160,3 +160,17 @@ are_meeting limit s command old next sound suits e reach told list within =
     (led.each list (omega (arith, there, length-table_of s)))
     (λ d is. reach.each list d is)
     (subst (λ d. IsTold (length (shown s list)) d (slice_index_or next list None)) q (told.each list there))
+
+-- what is told in a wave is what became of the lists
+pub told_deltas : (s : State) (cause : Cause) (told : List (Option DeltaModel)) → AreTold s cause told
+    → AreDeltas (table_of s) (wave_deltas s cause) told
+told_deltas s cause told are = record {
+  long = are.long ∙ sym (length-table_of s);
+  each = λ list within.
+      sofar (length (shown s list)) (delta_in (wave_deltas s cause) list) (slice_index_or told list None)
+      (are.each list (omega (arith, within, length-table_of s)));
+}
+  where
+    sofar : (n : ℕ) (delta : Delta) (o : Option DeltaModel) → IsTold n delta o → IsDeltaSofar n delta o
+    sofar n delta None is = is
+    sofar n delta (Some d) is = is.0

@@ -5,5 +5,7 @@ pub mod JoinedDeltas
 pub mod Commands
 pub mod Sections
 pub mod Tellings
+pub mod Dues
+pub mod Queues
+pub mod Ends
 pub mod Entries
-pub mod Built

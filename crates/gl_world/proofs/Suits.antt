@@ -1,7 +1,5 @@
 -- A command that is for the lists of a state, and isn't `show`, suits what its list keeps.
-use Rattle.std.proofs.Common.{◌≡◌, ℕ, zero, suc, List, [], ◌∷◌, length, map, sym, subst}
-use Rattle.std.specs.Prelude.{⊤, Option, Some, None, slice_get, slice_index}
-use Rattle.std.specs.List.{range_with_len}
+use Rattle.std.proofs.Common.{◌≡◌, ℕ, List, sym, subst}
 use Rattle.spec_states.specs.Command.{Command}
 use Rattle.spec_states.specs.Command.TheVariants as c
 use Rattle.spec_states.specs.ListClass.{ListClass}
@@ -13,12 +11,6 @@ use Rattle.spec_states.specs.State.{Own, source, over, composite, transaction, f
 use Rattle.spec_states.specs.Wave.{parameter_of}
 use Rattle.spec_states.specs.Laws.{MayAttach}
 use Rattle.spec_runs.specs.Kinds.{class_of_own, HasClass, IsFor, IsChange}
-use Rattle.spec_runs.proofs.Built.{IsUnqueued}
-use Rattle.gl_graph.specs.declared.keeps.Keeps.{Keeps}
-use Rattle.gl_graph.specs.declared.keeps.Keeps.TheVariants.{Source, Over, Composite, Held}
-use Rattle.gl_graph.specs.declared.held.Held.TheVariants as held
-use Rattle.gl_graph.specs.declared.node.Node.{Node}
-use Rattle.gl_graph.specs.Nodes.{own_of, own_of_node, own_in}
 use Rattle.gl_graph.specs.Graph.{Kept, state_of}
 use Rattle.gl_graph.specs.Commands.{IsEdit, IsMatcher, IsOrder, IsBounds, IsFunc, IsMembership, IsOfLevels, IsOfFreezing, Suits}
 
@@ -33,7 +25,7 @@ ForClass class.Collected command = ⊥
 ForClass class.Composed command = IsMembership command
 ForClass class.Undone command = IsOfLevels command
 ForClass class.Frozen command = IsOfFreezing command
-ForClass class.Pumped command = ⊤
+ForClass class.Pumped command = ⊥
 
 for_own : (command : Command) (own : Own) (needed : ListClass) → class_of_own own ≡ needed → ForClass needed command
     → ForClass (class_of_own own) command
@@ -67,47 +59,23 @@ suits_members (c.Attach list member) needed members h may = may
 suits_members (c.Detach list index) needed members h may = tt
 suits_members other needed members h may = absurd h
 
-suits_class : (command : Command) (own : Own) → IsUnqueued own → ForClass (class_of_own own) command
+suits_class : (command : Command) (own : Own) → ForClass (class_of_own own) command
     → MayAttach command own → Suits command own
-suits_class command (source contents) free h may = h
-suits_class command (over input (filter matcher)) free h may = h
-suits_class command (over input (sorted keys)) free h may = h
-suits_class command (over input (unique keys)) free h may = h
-suits_class command (over input (grouping keys)) free h may = h
-suits_class command (over input (range bounds)) free h may = h
-suits_class command (over input (function func)) free h may = h
-suits_class command (over input (collection path)) free h may = h
-suits_class command (composite needed members) free h may = suits_members command needed members h may
-suits_class command (transaction input levels) free h may = h
-suits_class command (freezable input since) free h may = h
-suits_class command (proxy input kept queue) free h may = absurd free
-
--- no list of a graph is a proxy
-unqueued_map : (f : ℕ → Own) → ((k : ℕ) → IsUnqueued (f k)) → (ks : List ℕ) (list : ℕ)
-    → IsUnqueued (own_at (map f ks) list)
-unqueued_map f h [] list = tt
-unqueued_map f h (k ∷ ks) zero = h k
-unqueued_map f h (k ∷ ks) (suc list) = unqueued_map f h ks list
-
-own_unqueued : (keeps : Keeps) → IsUnqueued (own_of keeps)
-own_unqueued (Source k) = tt
-own_unqueued (Over input d) = tt
-own_unqueued (Composite needed k) = tt
-own_unqueued (Held input (held.Transaction t)) = tt
-own_unqueued (Held input (held.Freezable since)) = tt
-
-node_unqueued : (node : Option Node) → IsUnqueued (own_of_node node)
-node_unqueued None = tt
-node_unqueued (Some node) = own_unqueued node.keeps
-
-pub graph_unqueued : (k : Kept) (list : ℕ) → IsUnqueued (own_at (state_of k) list)
-graph_unqueued k list =
-    unqueued_map (own_in k.nodes k.positions)
-    (λ n. node_unqueued (slice_get k.nodes (slice_index k.positions n)))
-    (range_with_len 0 (length k.positions)) list
+suits_class command (source contents) h may = h
+suits_class command (over input (filter matcher)) h may = h
+suits_class command (over input (sorted keys)) h may = h
+suits_class command (over input (unique keys)) h may = h
+suits_class command (over input (grouping keys)) h may = h
+suits_class command (over input (range bounds)) h may = h
+suits_class command (over input (function func)) h may = h
+suits_class command (over input (collection path)) h may = h
+suits_class command (composite needed members) h may = suits_members command needed members h may
+suits_class command (transaction input levels) h may = h
+suits_class command (freezable input since) h may = h
+suits_class command (proxy input kept queue) h may = absurd h
 
 pub graph_suits : (k : Kept) (command : Command) → IsFor command (state_of k) → IsChange command
     → Suits command (own_at (state_of k) (about command))
 graph_suits k command h change =
     let own : Own = own_at (state_of k) (about command) in
-    suits_class command own (graph_unqueued k (about command)) (by_class command own change h.suits) h.may
+    suits_class command own (by_class command own change h.suits) h.may

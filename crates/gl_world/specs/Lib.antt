@@ -1,9 +1,13 @@
 pub mod History
 pub mod World
 pub mod Next
+pub mod Idle
+pub mod Pumped
 pub mod Back
 pub mod Joined
 pub mod Section
+pub mod Due
+pub mod Entry
 pub mod Refusals
 pub use Rattle.gl_tell.specs.Told
 pub use Rattle.gl_tell.specs.declared.telling.Telling

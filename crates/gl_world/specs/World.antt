@@ -1,10 +1,11 @@
 -- What a world keeps of its plan and order: all that their run gives.
-use Rattle.std.specs.Prelude.{◌≡◌, ◌<◌, ℕ, true, List, length, slice_index}
+use Rattle.std.specs.Prelude.{◌≡◌, ◌<◌, ℕ, List, length, slice_index, None}
 use Rattle.gl_plan.specs.Whole.{IsWhole}
 use Rattle.gl_outside.specs.declared.gate.Actor.{Actor}
 use Rattle.spec_states.specs.Reply.{Reply}
 use Rattle.spec_states.specs.Plan.{Plan}
-use Rattle.spec_runs.specs.Built.{is_built}
+use Rattle.spec_states.specs.Opening.{opening}
+use Rattle.spec_states.specs.Step.{too_long}
 use Rattle.spec_runs.specs.Entry.{taken_by}
 use Rattle.spec_runs.specs.Run.{run}
 use Rattle.spec_runs.specs.Fits.{Fits}
@@ -15,7 +16,7 @@ pub record IsWorld (p : Plan) (order : List Actor) (graph : Kept) (replies : Lis
     (teller : TellerModel)
     (taken : List ℕ) : Type 0 where
   pub whole : IsWhole p
-  pub built : is_built p ≡ true
+  pub opens : too_long p.limit (opening p) ≡ None
   pub fits : Fits p order
   pub state : state_of graph ≡ (run p order).state
   pub limit : graph.limit ≡ p.limit

@@ -1,12 +1,12 @@
 //! The world of a plan.
 
-ghost use Rattle.std.specs.Prelude.{◌≡◌, ◌<◌, ◌≤◌, [], true, length, slice_get, None, All, IfOk, IfErr, OnOk, OnErr};
+ghost use Rattle.std.specs.Prelude.{◌≡◌, ◌<◌, ◌≤◌, [], length, slice_get, Some, None, All, IfOk, IfErr, OnOk, OnErr};
 ghost use Rattle.std.specs.Option.{option_copied};
 ghost use Rattle.spec_states.specs.Opening.{opening};
 ghost use Rattle.spec_states.specs.Shown.{EachShowsItsView};
+ghost use Rattle.spec_states.specs.Plan.{proxies_of};
 ghost use Rattle.spec_states.specs.State.{own_at};
 ghost use Rattle.spec_states.specs.Step.{too_long};
-ghost use Rattle.spec_runs.specs.Built.{is_built};
 ghost use Rattle.spec_runs.specs.Fits.{Fits};
 ghost use Rattle.spec_runs.specs.Run.{run, left_to, replies_at, shown_after};
 ghost use Rattle.spec_runs.specs.Telling.{listener_dependency_order};
@@ -14,11 +14,13 @@ ghost use Rattle.gl_graph.specs.Build.{IsReason};
 ghost use Rattle.gl_graph.specs.Holds.{hold_of};
 ghost use Rattle.gl_tell.specs.Told.{tellings_of, IsFresh};
 
-use crate::back::retreat_all;
+use crate::entering::enter;
 use crate::log::Log;
 use crate::next::{Next, Spent};
-use crate::section::{Taken, take_all};
-use gl_graph::{BuildFault, Graph, Hold};
+use crate::pump::take_pump;
+use crate::pumped::{Idle, Pumped};
+use crate::section::take_all;
+use gl_graph::{BuildFault, Graph, Hold, PumpFault};
 use gl_outside::Actor;
 use gl_plan::{Plan, Reply};
 use gl_tell::{Teller, Telling};
@@ -61,10 +63,10 @@ impl<N: RunName> Model for World<N> {
 
 impl<N: RunName> World<N> {
     ghost use Rattle.gl_world.specs.Next.{TakesSection};
+    ghost use Rattle.gl_world.specs.Pumped.{TakesPump};
 
     /// The world of the plan before its first entry. It takes memory for what its lists keep; the plan is shared.
     pub fn open(alloc: Global, plan: &Plan) -> Result<World<N>, BuildFault>
-        requires built { is_built plan.now ≡ true }
         ensures world { IfOk result (λ w. w ≡ record { plan = plan.now; order = [] }) }
         ensures within { OnOk result (too_long plan.now.limit (opening plan.now) ≡ None) }
         ensures fault { IfErr result (IsReason plan.now.limit (opening plan.now)) }
@@ -86,8 +88,7 @@ impl<N: RunName> World<N> {
 
     /// The plan.
     pub fn plan(&self) -> &Plan
-        ensures plan { result.now ≡ self.now.plan }
-        ensures built { is_built self.now.plan ≡ true }
+        ensures { result.now ≡ self.now.plan }
     {
         &self.plan
     }
@@ -156,7 +157,7 @@ impl<N: RunName> World<N> {
         self.graph.get(list, place)
     }
 
-    /// Whether a list is held.
+    /// Whether a list is held, or how much a proxy is yet to take.
     pub fn hold(&self, list: u32) -> Hold
         requires { list < length self.now.plan.lists }
         ensures { result ≡ hold_of (own_at (run self.now.plan self.now.order).state list) }
@@ -165,8 +166,9 @@ impl<N: RunName> World<N> {
     }
 
     /// Takes a writer's next section, as one entry; its place among the entries is answered. The room for its entry and its
-    /// tellings is made first; it then takes memory for its replies and its changes, and for a copy of what each listener
-    /// but the last of a list is told. A section that finds none goes back by the undos of its commands.
+    /// tellings is made first; it then takes memory for its replies and its changes, for a copy of what each listener but the
+    /// last of a list is told, and for one of what each proxy queues. A section that finds none goes back by the undos of its
+    /// commands.
     pub fn section<L: Ledger>(
         &mut self,
         writer: u32,
@@ -192,23 +194,58 @@ impl<N: RunName> World<N> {
             self.plan.commands(writer, section),
             steps,
         )?;
-        let Taken {
-            replies,
-            deltas,
-            undos,
-        } = taken;
-        match self.teller.by_listener(deltas) {
-            Ok(heard) => {
-                let place = self.log.order.len() as u64;
-                self.log.add(Actor::Writer(writer), replies);
-                self.teller.tell(place, heard);
-                self.taken[writer as usize] = section + 1;
-                Ok(Next::Some(place))
+        let place = enter(
+            self.alloc,
+            &self.plan,
+            &mut self.graph,
+            &mut self.log,
+            &mut self.teller,
+            Actor::Writer(writer),
+            taken,
+        )?;
+        self.taken[writer as usize] = section + 1;
+        Ok(Next::Some(place))
+    }
+
+    /// Takes the first delta that a proxy is yet to take, as one entry; its place among the entries is answered. Proxies are
+    /// numbered as actors, by their place among the plan's. It takes memory as a section does, and goes back where it finds
+    /// none.
+    pub fn pump<L: Ledger>(&mut self, proxy: u32, steps: &mut Steps<L>) -> Result<Pumped<N>, Memory>
+        requires { proxy < length (proxies_of self.old.plan) }
+        ensures taken { IfOk result (λ pumped. TakesPump proxy self.old pumped self.new) }
+        ensures err { OnErr result (self.new ≡ self.old) }
+    {
+        let list = list_of(&self.plan, proxy);
+        self.teller.reserve()?;
+        self.log.reserve()?;
+        match take_pump(self.alloc, &mut self.graph, list, steps) {
+            Ok(taken) => {
+                let place = enter(
+                    self.alloc,
+                    &self.plan,
+                    &mut self.graph,
+                    &mut self.log,
+                    &mut self.teller,
+                    Actor::Proxy(proxy),
+                    taken,
+                )?;
+                Ok(Pumped::Done(place))
             }
-            Err(memory) => {
-                retreat_all(&mut self.graph, undos);
-                Err(memory)
-            }
+            Err(PumpFault::Nothing) => Ok(Pumped::Nothing(Idle {
+                proxy,
+                entries: self.log.order.len() as u64,
+                name: PhantomData,
+            })),
+            Err(PumpFault::Memory) => Err(Memory),
         }
     }
+}
+
+// The number among the lists of a proxy.
+#[tactic(auto, using(crate::proofs::Entries::nth_of))]
+fn list_of(plan: &Plan, proxy: u32) -> u32
+    requires { proxy < length (proxies_of plan.now) }
+    ensures { slice_get (proxies_of plan.now) proxy ≡ Some result }
+{
+    plan.proxies()[proxy as usize]
 }
