@@ -12,7 +12,6 @@ use Rattle.spec_reports.specs.State.{Own, State, source, over, composite, transa
 use Rattle.spec_reports.specs.Shown.{Table, shows_in}
 use Rattle.spec_reports.specs.Telling.{Telling}
 use Rattle.spec_reports.specs.ValueText.{spelled_list}
-use Rattle.spec_reports.proofs.Built.{IsUnqueued}
 use Rattle.spec_reports.specs.Report.{line_feed, refused_lines, held_line, told_lines, told_first, told_later, entry_lines, list_lines, listener_name}
 use Rattle.spec_reports.specs.Event.{event_text}
 use Rattle.gl_world.specs.Telling.{Telling as Told}
@@ -21,16 +20,16 @@ use Rattle.gl_world.specs.Holds.{hold_of}
 use Rattle.gl_report.specs.Held.{hold_line}
 use Rattle.gl_report.specs.Lines.{spelled_entry, list_line, told_line}
 
--- the line of a list that is held, unless it is a proxy
-held_by : (name : List ℕ) (own : Own) → IsUnqueued own → held_line name own ≡ hold_line name (hold_of own)
-held_by name (source contents) free = refl
-held_by name (over input view) free = refl
-held_by name (composite needed members) free = refl
-held_by name (transaction input []) free = refl
-held_by name (transaction input (level ∷ levels)) free = refl
-held_by name (freezable input None) free = refl
-held_by name (freezable input (Some since)) free = refl
-held_by name (proxy input kept queue) free = absurd free
+-- the line of a list that is held, or of a proxy
+held_by : (name : List ℕ) (own : Own) → held_line name own ≡ hold_line name (hold_of own)
+held_by name (source contents) = refl
+held_by name (over input view) = refl
+held_by name (composite needed members) = refl
+held_by name (transaction input []) = refl
+held_by name (transaction input (level ∷ levels)) = refl
+held_by name (freezable input None) = refl
+held_by name (freezable input (Some since)) = refl
+held_by name (proxy input kept queue) = refl
 
 -- what is written of a list that shows these values and keeps this
 abbrev lines_of : List ℕ → List Tree → Own → List ℕ
@@ -38,17 +37,17 @@ lines_of name values own = list_line name values ++ hold_line name (hold_of own)
 
 list_step : (lists : List ListDecl) (shown : Table) (state : State) (k : ℕ) (d : ListDecl)
     → k < length lists → length lists ≡ length shown → length lists ≡ length state
-    → d ≡ get_or lists k d → IsUnqueued (own_at state k)
+    → d ≡ get_or lists k d
     → list_lines (drop k lists) (drop k shown) (drop k state)
     ≡ lines_of d.name (shows_in shown k) (own_at state k)
     ++ list_lines (drop (suc k) lists) (drop (suc k) shown) (drop (suc k) state)
-list_step [] shown state k d within same many is free = absurd (omega arith)
-list_step (e ∷ lists) [] state k d within same many is free = absurd (omega arith)
-list_step (e ∷ lists) (values ∷ shown) [] k d within same many is free = absurd (omega arith)
-list_step (e ∷ lists) (values ∷ shown) (own ∷ state) zero d within same many is free =
+list_step [] shown state k d within same many is = absurd (omega arith)
+list_step (e ∷ lists) [] state k d within same many is = absurd (omega arith)
+list_step (e ∷ lists) (values ∷ shown) [] k d within same many is = absurd (omega arith)
+list_step (e ∷ lists) (values ∷ shown) (own ∷ state) zero d within same many is =
     let rest : List ℕ = list_lines lists shown state in
     ap (λ h. codes "list " ++ e.name ++ codes " " ++ spelled_list values ++ line_feed ++ h ++ rest)
-    (held_by e.name own free)
+    (held_by e.name own)
     ∙ parted (codes "list ") e.name (codes " ") (spelled_list values) line_feed
     (hold_line e.name (hold_of own)) rest
     ∙ ap (λ x. lines_of x.name values own ++ rest) (sym is)
@@ -56,23 +55,22 @@ list_step (e ∷ lists) (values ∷ shown) (own ∷ state) zero d within same ma
     parted : (a b c d e h rest : List ℕ)
         → a ++ b ++ c ++ d ++ e ++ h ++ rest ≡ ((a ++ b ++ c ++ d ++ e) ++ h) ++ rest
     parted a b c d e h rest = simp append_assoc refl
-list_step (e ∷ lists) (values ∷ shown) (own ∷ state) (suc k) d within same many is free =
-    list_step lists shown state k d (omega arith) (omega arith) (omega arith) is free
+list_step (e ∷ lists) (values ∷ shown) (own ∷ state) (suc k) d within same many is =
+    list_step lists shown state k d (omega arith) (omega arith) (omega arith) is
 
 -- one list more is written, of those from a place on
 pub list_more : (out before : List ℕ) (lists : List ListDecl) (shown : Table) (state : State) (k : ℕ) (d : ListDecl)
     → k < length lists → length lists ≡ length shown → length lists ≡ length state → d ≡ get_or lists k d
-    → IsUnqueued (own_at state k)
     → out ++ list_lines (drop k lists) (drop k shown) (drop k state) ≡ before
     → ((out ++ list_line d.name (shows_in shown k)) ++ hold_line d.name (hold_of (own_at state k)))
     ++ list_lines (drop (k + 1) lists) (drop (k + 1) shown) (drop (k + 1) state)
     ≡ before
-list_more out before lists shown state k d within same many is free whole =
+list_more out before lists shown state k d within same many is whole =
     let e : k + 1 ≡ suc k = omega arith in
     let rest : List ℕ = list_lines (drop (k + 1) lists) (drop (k + 1) shown) (drop (k + 1) state) in
     let next : list_lines (drop k lists) (drop k shown) (drop k state)
     ≡ lines_of d.name (shows_in shown k) (own_at state k) ++ rest =
-    rw e (list_step lists shown state k d within same many is free) in
+    rw e (list_step lists shown state k d within same many is) in
     regrouped out (list_line d.name (shows_in shown k)) (hold_line d.name (hold_of (own_at state k))) rest
     ∙ ap (λ l. out ++ l) (sym next) ∙ whole
   where

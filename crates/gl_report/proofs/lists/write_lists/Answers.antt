@@ -5,7 +5,6 @@ use Rattle.spec_reports.specs.Shown.{Table, table_of}
 use Rattle.spec_reports.proofs.Views.{length-table_of}
 use Rattle.spec_reports.specs.Run.{run}
 use Rattle.spec_reports.proofs.KeptKinds.{length-state}
-use Rattle.spec_reports.proofs.Built.{run_unqueued}
 use Rattle.gl_report.proofs.Lines.{list_more}
 use Rattle.gl_report.proofs.lists.write_lists.Goals as goal
 
@@ -15,11 +14,10 @@ loop-list-preserved g c =
     let plan : Plan = c.args.world.now.plan in
     let state : State = (run plan c.args.world.now.order).state in
     let shown : Table = table_of state in
-    let many : length lists ≡ length state = ap length (c.lists-lists.ensures.lists ∙ ap (λ p. p.lists) c.plan-plan.ensures.plan)
+    let many : length lists ≡ length state = ap length (c.lists-lists.ensures.lists ∙ ap (λ p. p.lists) c.plan-plan.ensures)
     ∙ sym (length-state plan c.args.world.now.order) in
     let same : length lists ≡ length shown = many ∙ sym (length-table_of state) in
     rw (c.in_ok-write_held.ensures, c.in_ok-write_list.ensures, c.hold.ensures)
     (rw (c.bytes-name.ensures.value ∙ c.text.ensures.value)
     (list_more c.loop-list.out _ lists shown state c.loop-list.list c.index-lists-list.result c.loop-list-test.true same many
-    c.index-lists-list.is (run_unqueued plan c.args.world.now.order c.plan-plan.ensures.built c.loop-list.list)
-    c.loop-list.invariant))
+    c.index-lists-list.is c.loop-list.invariant))

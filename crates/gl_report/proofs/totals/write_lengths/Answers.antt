@@ -15,7 +15,7 @@ loop-list-preserved g c =
     let state : State = (run plan c.args.world.now.order).state in
     let shown : Table = table_of state in
     let same : length lists ≡ length shown =
-    ap length (c.lists-lists.ensures.lists ∙ ap (λ p. p.lists) c.plan-plan.ensures.plan)
+    ap length (c.lists-lists.ensures.lists ∙ ap (λ p. p.lists) c.plan-plan.ensures)
     ∙ sym (length-state plan c.args.world.now.order) ∙ sym (length-table_of state) in
     rw c.in_ok-write_length.ensures (rw (c.bytes.ensures.value ∙ c.text.ensures.value) (rw c.len.ensures.len
     (length_more c.loop-list.out _ lists shown c.loop-list.list c.index-lists-list.result c.loop-list-test.true same
