@@ -1,12 +1,11 @@
 -- From what a call comes to and what its sink took, all that its status says.
-use Rattle.std.proofs.Common.{◌≡◌, ◌∙◌, ℕ, ◌+◌, ◌-◌, ◌<◌, ◌≤◌, ◌⊎◌, List, [], ◌++◌, length, take, true, Option, Some, None, refl, sym, ap, subst, inl, inr, arith, length-append}
+use Rattle.std.proofs.Common.{◌≡◌, ◌∙◌, ℕ, ◌+◌, ◌-◌, ◌<◌, ◌≤◌, ◌⊎◌, List, [], ◌++◌, length, take, Option, Some, None, refl, sym, ap, subst, inl, inr, arith, length-append}
 use Rattle.std.specs.Io.KnownBytes.{Appends}
 use Rattle.gl_outside.specs.declared.gate.Actor.{Actor}
 use Rattle.gl_outside.specs.Sink.{AppendsPrefix}
 use Rattle.spec_reports.specs.Plan.{Plan}
 use Rattle.spec_reports.specs.Text.{SpellsPlan}
 use Rattle.spec_reports.proofs.Rewritten.{rewritten}
-use Rattle.spec_reports.specs.Built.{is_built}
 use Rattle.spec_reports.specs.Fits.{Fits}
 use Rattle.spec_reports.specs.Order.{AsksReplay}
 use Rattle.spec_reports.specs.Words.{Request, check, replay, run, big, Asks, HaveNoForm}
@@ -24,7 +23,7 @@ use Rattle.gl_app.specs.Status.{status_of}
 use Rattle.gl_app.specs.Reading.{Took, IsWhole}
 use Rattle.gl_app.specs.Answer.{status_at, text_at, IsOf, AnswersBytes}
 use Rattle.gl_app.specs.Call.{Tells, AnswersRequest, AnswersWords, Answered, IsAnswer, Gives, ReportsRun, WritesPlan, MostText, IsAhead, IsSummary, AskForNoSize, HasReadFor, HasRead, IsAfterAll}
-use Rattle.gl_app.proofs.Plans.{views_of_spelled, held_of_spelled, hears_of_spelled, in_turn_of_spelled}
+use Rattle.gl_app.proofs.Plans.{views_of_spelled, held_of_spelled, hears_of_spelled, in_turn_of_spelled, proxies_of_spelled}
 use Rattle.gl_app.proofs.RequestOutcomes.{reads_of, replayed_cases}
 use Rattle.spec_reports.proofs.Words.{one_request, one_size}
 
@@ -127,11 +126,11 @@ quiet_answer words held old new TooLong R W is read write no_read no_write = inr
 
 -- what a replay comes to, where its status is Done
 abbrev IsReport : Plan → List Actor → Outcome → Type 0
-IsReport p order o = Done ≡ status_of o → (is_built p ≡ true) × Fits p order × (o ≡ reported (report p order))
+IsReport p order o = Done ≡ status_of o → Fits p order × (o ≡ reported (report p order))
 
 is_report : (p : Plan) (order : List Actor) → IsReport p order (replayed p order)
-is_report p order = replayed_cases (IsReport p order) p order (λ name len e. cc) (λ place e. cc) (λ e. cc)
-    (λ built fits e. (built, fits, refl))
+is_report p order = replayed_cases (IsReport p order) p order (λ name len e. cc) (λ place e. cc)
+    (λ fits e. (fits, refl))
 
 reported_run : (held old new : Option (List ℕ)) (bytes : List ℕ) (order : List Actor) (o : Outcome) (p : Plan)
     → Tells held bytes → SpellsPlan bytes p → o ≡ replayed p order → Done ≡ status_of o
@@ -143,13 +142,13 @@ reported_run held old new bytes order o p told spells is e taken =
       told = told;
       plan = p;
       spells = spells;
-      built = done.0;
-      fits = done.1;
-      taken = subst (λ x. Appends old new (text_of_outcome x)) (is ∙ done.2) taken;
+      fits = done.0;
+      taken = subst (λ x. Appends old new (text_of_outcome x)) (is ∙ done.1) taken;
       views = λ n. views_of_spelled bytes p (take n order) spells;
       stays = held_of_spelled bytes p spells;
       listeners = hears_of_spelled bytes p spells;
       in_turn = in_turn_of_spelled bytes p spells;
+      proxies = proxies_of_spelled bytes p spells;
     }
 
 run_reported : (words : List (List ℕ)) (held old new : Option (List ℕ)) (bytes : List ℕ) (order : List Actor)
@@ -281,9 +280,9 @@ IsNoUsage o = Usage ≡ status_of o → ⊥
 
 no_usage : (r : Request) (p : Plan) → IsNoUsage (answer_of r [] p)
 no_usage check p = λ e. cc
-no_usage (replay order) p = replayed_cases IsNoUsage p order (λ name len e. cc) (λ place e. cc) (λ e. cc)
-    (λ built fits e. cc)
-no_usage run p = replayed_cases IsNoUsage p [] (λ name len e. cc) (λ place e. cc) (λ e. cc) (λ built fits e. cc)
+no_usage (replay order) p = replayed_cases IsNoUsage p order (λ name len e. cc) (λ place e. cc)
+    (λ fits e. cc)
+no_usage run p = replayed_cases IsNoUsage p [] (λ name len e. cc) (λ place e. cc) (λ fits e. cc)
 no_usage (big n) p = λ e. cc
 
 without_form : (words : List (List ℕ)) (bytes : List ℕ) (o : Outcome) → ComesTo words bytes [] o → Usage ≡ status_of o
@@ -315,7 +314,6 @@ ahead_of answer.TooLarge h = h
 ahead_of (answer.Faulty text) h = h
 ahead_of (answer.Circular text) h = h
 ahead_of (answer.Written text) h = h
-ahead_of answer.Unbuilt h = h
 ahead_of (answer.TooLong text) h = h
 ahead_of (answer.Misfit text) h = h
 ahead_of (answer.Reported text) h = h
@@ -355,7 +353,6 @@ read_for old new answer.TooLarge h = h
 read_for old new (answer.Faulty text) h = h
 read_for old new (answer.Circular text) h = h
 read_for old new (answer.Written text) h = h
-read_for old new answer.Unbuilt h = h
 read_for old new (answer.TooLong text) h = h
 read_for old new (answer.Misfit text) h = h
 read_for old new (answer.Reported text) h = h

@@ -1,6 +1,6 @@
 pub mod SpelledWords
 pub mod Plans
-pub mod BuiltPlans
+pub mod Pumps
 pub mod RequestOutcomes
 pub mod AllSections
 pub mod CallOutcomes

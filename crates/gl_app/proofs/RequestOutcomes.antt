@@ -1,5 +1,5 @@
 -- From what the parts of the code answer, what a request for the bytes comes to.
-use Rattle.std.proofs.Common.{◌≡◌, ℕ, ◌≤◌, List, Option, Some, None, Bool, true, false, cond, [], length, refl, sym, subst}
+use Rattle.std.proofs.Common.{◌≡◌, ℕ, ◌≤◌, List, Option, Some, None, [], length, refl, sym, subst}
 use Rattle.gl_outside.specs.declared.gate.Actor.{Actor}
 use Rattle.spec_reports.specs.Reply.{Reply}
 use Rattle.spec_reports.specs.Reply.TheVariants as reply
@@ -10,11 +10,10 @@ use Rattle.spec_reports.specs.Plan.{Plan}
 use Rattle.spec_reports.specs.Text.{SpellsPlan}
 use Rattle.spec_reports.specs.Opening.{opening}
 use Rattle.spec_reports.specs.Step.{too_long as first_too_long}
-use Rattle.spec_reports.specs.Built.{is_built}
 use Rattle.spec_reports.specs.Fits.{BadPlace, Fits, first_bad_place}
 use Rattle.spec_reports.specs.Report.{report, list_name}
 use Rattle.spec_reports.specs.Words.{Request, check, replay, run, big}
-use Rattle.spec_reports.specs.Answer.{Outcome, Reads, faulty, circular, unbuilt, too_long, misfit, reported, taken, opened, replayed, answer_of, a_fault, a_cycle, a_plan, most_bytes}
+use Rattle.spec_reports.specs.Answer.{Outcome, Reads, faulty, circular, too_long, misfit, reported, taken, opened, replayed, answer_of, a_fault, a_cycle, a_plan, most_bytes}
 use Rattle.gl_app.specs.declared.words.PlanRequest.{PlanRequest}
 use Rattle.gl_app.specs.declared.words.PlanRequest.TheVariants.{Check, Replay}
 use Rattle.gl_app.specs.Words.{request_of_plan}
@@ -85,16 +84,10 @@ module _ (P : Outcome → Type 0) (p : Plan) (order : List Actor)
   opened_cases (Some reply.NotFrozen) fits = taken_cases (first_bad_place p order) refl fits
   opened_cases (Some reply.NotOpen) fits = taken_cases (first_bad_place p order) refl fits
 
-  built_cases : (t : Bool) → is_built p ≡ t → P unbuilt
-      → (is_built p ≡ true → Fits p order → P (reported (report p order)))
-      → P (cond t (opened p order (first_too_long p.limit (opening p))) unbuilt)
-  built_cases true is none some = opened_cases (first_too_long p.limit (opening p)) (some is)
-  built_cases false is none some = none
-
 pub replayed_cases : (P : Outcome → Type 0) (p : Plan) (order : List Actor)
-    → ((name : List ℕ) (len : ℕ) → P (too_long name len)) → ((place : BadPlace) → P (misfit place)) → P unbuilt
-    → (is_built p ≡ true → Fits p order → P (reported (report p order))) → P (replayed p order)
-replayed_cases P p order long bad none some = built_cases P p order long bad (is_built p) refl none some
+    → ((name : List ℕ) (len : ℕ) → P (too_long name len)) → ((place : BadPlace) → P (misfit place))
+    → (Fits p order → P (reported (report p order))) → P (replayed p order)
+replayed_cases P p order long bad fits = opened_cases P p order long bad (first_too_long p.limit (opening p)) fits
 
 -- the status of each of them comes after all of the source was read
 abbrev IsAfter : Outcome → Type 0
@@ -102,8 +95,8 @@ IsAfter o = IsAfterAll (status_of o)
 
 after_outcome : (r : Request) (p : Plan) → IsAfter (answer_of r [] p)
 after_outcome check p = tt
-after_outcome (replay order) p = replayed_cases IsAfter p order (λ name len. tt) (λ place. tt) tt (λ built fits. tt)
-after_outcome run p = replayed_cases IsAfter p [] (λ name len. tt) (λ place. tt) tt (λ built fits. tt)
+after_outcome (replay order) p = replayed_cases IsAfter p order (λ name len. tt) (λ place. tt) (λ fits. tt)
+after_outcome run p = replayed_cases IsAfter p [] (λ name len. tt) (λ place. tt) (λ fits. tt)
 after_outcome (big n) p = tt
 
 pub after_request : (r : Request) (p : Plan) (a : Answer) → IsOf a (answer_of r [] p) → IsAfterAll (status_at a)

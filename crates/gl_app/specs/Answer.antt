@@ -4,11 +4,11 @@ use Rattle.gl_plan.specs.declared.fault.PlanFault.{PlanFault}
 use Rattle.gl_plan.specs.declared.fault.PlanFault.TheVariants as fault
 use Rattle.gl_text.specs.Spelled.{fault_at}
 use Rattle.spec_reports.specs.Words.{Request, Asks}
-use Rattle.spec_reports.specs.Answer.{Outcome, usage, too_large, faulty, circular, unbuilt, text_of_outcome, ComesTo}
+use Rattle.spec_reports.specs.Answer.{Outcome, usage, too_large, faulty, circular, text_of_outcome, ComesTo}
 use Rattle.gl_app.specs.declared.status.Status.{Status}
 use Rattle.gl_app.specs.declared.status.Status.TheVariants as status
 use Rattle.gl_app.specs.declared.answer.Answer.{Answer}
-use Rattle.gl_app.specs.declared.answer.Answer.TheVariants.{Usage, TooLarge, Faulty, Circular, Written, Unbuilt, TooLong, Misfit, Reported}
+use Rattle.gl_app.specs.declared.answer.Answer.TheVariants.{Usage, TooLarge, Faulty, Circular, Written, TooLong, Misfit, Reported}
 use Rattle.gl_app.specs.Status.{status_of}
 
 abbrev pub status_at : Answer → Status
@@ -17,7 +17,6 @@ status_at TooLarge = status.TooLarge
 status_at (Faulty text) = status.Plan
 status_at (Circular text) = status.Plan
 status_at (Written text) = status.Done
-status_at Unbuilt = status.Plan
 status_at (TooLong text) = status.TooLong
 status_at (Misfit text) = status.Order
 status_at (Reported text) = status.Done
@@ -28,7 +27,6 @@ text_at TooLarge = text_of_outcome too_large
 text_at (Faulty text) = text
 text_at (Circular text) = text
 text_at (Written text) = text
-text_at Unbuilt = text_of_outcome unbuilt
 text_at (TooLong text) = text
 text_at (Misfit text) = text
 text_at (Reported text) = text

@@ -1,5 +1,5 @@
 -- What a call of the program does.
-use Rattle.std.specs.Prelude.{◌≡◌, ◌<◌, ◌≤◌, ℕ, List, [], length, take, Option, None, Some, IfSome, Result, Ok, Err, true, ⊤}
+use Rattle.std.specs.Prelude.{◌≡◌, ◌<◌, ◌≤◌, ℕ, List, [], length, take, Option, None, Some, IfSome, Result, Ok, Err, ⊤}
 use Rattle.std.specs.Io.KnownBytes.{Appends}
 use Rattle.gl_outside.specs.declared.gate.Actor.{Actor}
 use Rattle.gl_outside.specs.Sink.{AppendsPrefix}
@@ -8,9 +8,8 @@ use Rattle.spec_reports.specs.Shown.{EachShowsItsView}
 use Rattle.spec_reports.specs.Canonical.{spelled_plan}
 use Rattle.spec_reports.specs.Text.{SpellsPlan}
 use Rattle.spec_reports.specs.Short.{HasShortLines}
-use Rattle.spec_reports.specs.Built.{is_built}
 use Rattle.spec_reports.specs.Fits.{Fits}
-use Rattle.spec_reports.specs.Laws.{EachHeldStays, EachHears, EachToldAfterNeeded}
+use Rattle.spec_reports.specs.Laws.{EachHeldStays, EachHears, EachToldAfterNeeded, EachProxyFollows}
 use Rattle.spec_reports.specs.Run.{run}
 use Rattle.spec_reports.specs.Words.{Request, big, Asks}
 use Rattle.spec_reports.specs.Report.{report}
@@ -132,19 +131,21 @@ Gives old new a status = (status ≡ status_at a) × Appends old new (text_at a)
 -- The sink took the report of the plan that the bytes spell, in the order, which fits it. At each moment of its run each
 -- list that isn't held shows its view of what its inputs show, and at each command a list that is held after it shows
 -- what it showed before it. Each listener is told once of each entry that changes its list, and of no other, after all
--- listeners that it depends on, and replaying what it was told gives what its list shows.
+-- listeners that it depends on, and replaying what it was told gives what its list shows. Each proxy shows what its input
+-- showed after the part of the run to which the proxy has come, and what it is yet to take leads from there to what its
+-- input shows now.
 pub record ReportsRun (order : List Actor) (held old new : Option (List ℕ)) : Type 0 where
   pub bytes : List ℕ
   pub told : Tells held bytes
   pub plan : Plan
   pub spells : SpellsPlan bytes plan
-  pub built : is_built plan ≡ true
   pub fits : Fits plan order
   pub taken : Appends old new (report plan order)
   pub views : (n : ℕ) → EachShowsItsView (run plan (take n order)).state
   pub stays : EachHeldStays plan
   pub listeners : EachHears plan
   pub in_turn : EachToldAfterNeeded plan
+  pub proxies : EachProxyFollows plan
 
 -- The sink took the one text of the plan that the bytes spell. Where each line of that text is short enough to be read, it
 -- spells the plan again.

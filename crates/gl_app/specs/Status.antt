@@ -2,7 +2,7 @@
 use Rattle.std.specs.Prelude.{ℕ}
 use Rattle.gl_app.specs.declared.status.Status.{Status}
 use Rattle.gl_app.specs.declared.status.Status.TheVariants.{Done, Usage, Plan, Read, Write, Memory, Order, TooLarge, TooLong}
-use Rattle.spec_reports.specs.Answer.{Outcome, usage, too_large, faulty, circular, written, unbuilt, too_long, misfit, reported}
+use Rattle.spec_reports.specs.Answer.{Outcome, usage, too_large, faulty, circular, written, too_long, misfit, reported}
 
 -- the status of the process
 abbrev pub code_of : Status → ℕ
@@ -23,7 +23,6 @@ status_of too_large = TooLarge
 status_of (faulty fault) = Plan
 status_of (circular names) = Plan
 status_of (written text) = Done
-status_of unbuilt = Plan
 status_of (too_long name len) = TooLong
 status_of (misfit bad) = Order
 status_of (reported text) = Done

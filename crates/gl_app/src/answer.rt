@@ -13,7 +13,6 @@ pub enum Answer {
     Faulty(Bytes),
     Circular(Bytes),
     Written(Bytes),
-    Unbuilt,
     TooLong(Bytes),
     Misfit(Bytes),
     Reported(Bytes),
@@ -32,7 +31,6 @@ impl Answer {
             Answer::Faulty(_) => Status::Plan,
             Answer::Circular(_) => Status::Plan,
             Answer::Written(_) => Status::Done,
-            Answer::Unbuilt => Status::Plan,
             Answer::TooLong(_) => Status::TooLong,
             Answer::Misfit(_) => Status::Order,
             Answer::Reported(_) => Status::Done,
@@ -46,7 +44,6 @@ impl Answer {
         match self {
             Answer::Usage => b"usage: glazed check | replay ORDER | run | big N\n",
             Answer::TooLarge => b"input: more than 67108864 bytes\n",
-            Answer::Unbuilt => b"plan: unbuilt\n",
             Answer::Faulty(text) => text.as_slice(),
             Answer::Circular(text) => text.as_slice(),
             Answer::Written(text) => text.as_slice(),

@@ -5,7 +5,6 @@
 
 mod answer;
 mod big;
-mod built;
 mod call;
 mod form;
 mod laws;

@@ -1,14 +1,13 @@
 //! The entries of an order, taken one after another.
 
-ghost use Rattle.std.specs.Prelude.{◌≡◌, ◌<◌, [], true, IfOk, IfNone, option_map};
-ghost use Rattle.spec_reports.specs.Built.{is_built};
+ghost use Rattle.std.specs.Prelude.{◌≡◌, ◌<◌, [], IfOk, IfNone, option_map};
 ghost use Rattle.spec_reports.specs.Fits.{reason_at, first_bad_place};
 ghost use Rattle.gl_world.specs.History.{with_entry};
 ghost use Rattle.gl_app.specs.BadPlace.{reason_of, bad_place_of};
 
 use gl_outside::Actor;
 use gl_syntax::Steps;
-use gl_world::{Next, RunName, World};
+use gl_world::{Next, Pumped, RunName, World};
 use std::alloc::AllocError;
 use std::marker::Brand;
 use std::sync::ledger::{Blank, Ledger};
@@ -22,6 +21,8 @@ pub enum Reason {
     NoSection,
     /// The plan has no such proxy.
     NoProxy,
+    /// The proxy has nothing to take.
+    EmptyQueue,
 }
 
 /// A place of an order, counted from 0, at which the actor can't take its entry.
@@ -31,14 +32,12 @@ pub struct BadPlace {
     pub reason: Reason,
 }
 
-/// Takes the entries of an order in a world that has none yet, of a plan of which all is built. It stops at the first bad
-/// place, and answers that.
+/// Takes the entries of an order in a world that has none yet. It stops at the first bad place, and answers that.
 pub fn replay<N: RunName>(
     world: &mut World<N>,
     order: &[Actor],
 ) -> Result<Option<BadPlace>, AllocError>
-    requires built { is_built world.old.plan ≡ true }
-    requires open { world.old.order ≡ [] }
+    requires { world.old.order ≡ [] }
     ensures bad { IfOk result
         (λ bad. option_map bad_place_of bad ≡ first_bad_place world.old.plan order.now) }
     ensures whole { IfOk result
@@ -56,7 +55,6 @@ fn replay_counted<N: RunName, L: Ledger>(
     requires name { blank.name ≡ L.name }
     requires parts { blank.parts ≡ L.parts }
     requires some { 0 < blank.parts }
-    requires built { is_built world.old.plan ≡ true }
     requires open { world.old.order ≡ [] }
     ensures bad { IfOk result
         (λ bad. option_map bad_place_of bad ≡ first_bad_place world.old.plan order.now) }
@@ -75,21 +73,19 @@ fn replay_counted<N: RunName, L: Ledger>(
     Ok(None)
 }
 
-// Takes the actor's next entry, or says why it can't be taken. No proxy can take any, since what is built has none.
-#[tactic(auto, using(crate::proofs::BuiltPlans::no_proxy_at))]
+// Takes the actor's next entry, or says why it can't be taken.
 fn take_entry<N: RunName, L: Ledger>(
     world: &mut World<N>,
     actor: Actor,
     steps: &mut Steps<L>,
 ) -> Result<Option<Reason>, AllocError>
-    requires { is_built world.old.plan ≡ true }
     ensures reason { IfOk result
         (λ r. option_map reason_of r ≡ reason_at world.old.plan world.old.order actor) }
     ensures entry { IfOk result (λ r. IfNone r (world.new ≡ with_entry world.old actor)) }
 {
     match actor {
         Actor::Writer(writer) => take_section(world, writer, steps),
-        Actor::Proxy(_) => Ok(Some(Reason::NoProxy)),
+        Actor::Proxy(proxy) => take_pump(world, proxy, steps),
     }
 }
 
@@ -109,5 +105,25 @@ fn take_section<N: RunName, L: Ledger>(
     match world.section(writer, steps)? {
         Next::Some(_) => Ok(None),
         Next::None(_) => Ok(Some(Reason::NoSection)),
+    }
+}
+
+#[tactic(auto, using(crate::proofs::Pumps::no_proxy_at, crate::proofs::Pumps::empty_at, crate::proofs::Pumps::pump_at))]
+fn take_pump<N: RunName, L: Ledger>(
+    world: &mut World<N>,
+    proxy: u32,
+    steps: &mut Steps<L>,
+) -> Result<Option<Reason>, AllocError>
+    ensures reason { IfOk result (λ r. option_map reason_of r
+        ≡ reason_at world.old.plan world.old.order (Actor.Proxy proxy)) }
+    ensures entry { IfOk result
+        (λ r. IfNone r (world.new ≡ with_entry world.old (Actor.Proxy proxy))) }
+{
+    if proxy as usize >= world.plan().proxies().len() {
+        return Ok(Some(Reason::NoProxy));
+    }
+    match world.pump(proxy, steps)? {
+        Pumped::Done(_) => Ok(None),
+        Pumped::Nothing(_) => Ok(Some(Reason::EmptyQueue)),
     }
 }

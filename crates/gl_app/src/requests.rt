@@ -1,16 +1,12 @@
 //! What the requests for a plan come to.
 
-ghost use Rattle.std.specs.Prelude.{◌≡◌, [], true, IfOk};
-ghost use Rattle.spec_reports.specs.Built.{is_built as all_built};
-ghost use Rattle.spec_reports.specs.Opening.{opening};
-ghost use Rattle.spec_reports.specs.Step.{too_long as first_too_long};
+ghost use Rattle.std.specs.Prelude.{◌≡◌, [], IfOk};
 ghost use Rattle.spec_reports.specs.Fits.{first_bad_place};
-ghost use Rattle.spec_reports.specs.Answer.{answer_of, replayed, opened, taken};
+ghost use Rattle.spec_reports.specs.Answer.{answer_of, replayed, taken};
 ghost use Rattle.gl_app.specs.Answer.{IsOf, AnswersFault};
 ghost use Rattle.gl_app.specs.Words.{request_of_plan};
 
 use crate::answer::Answer;
-use crate::built::is_built;
 use crate::replaying::replay;
 use crate::texts::{cycle_text, fault_text, misfit_text, too_long_text};
 use crate::words::PlanRequest;
@@ -52,30 +48,13 @@ pub fn answer_request<N: RunName>(
     }
 }
 
+#[tactic(auto, using(crate::proofs::RequestOutcomes::opened_within, crate::proofs::RequestOutcomes::opened_long))]
 fn answer_replay<N: RunName>(
     alloc: Global,
     plan: &Plan,
     order: &[Actor],
 ) -> Result<Answer, AllocError>
     ensures { IfOk result (λ a. IsOf a (replayed plan.now order.now)) }
-{
-    if is_built(plan) {
-        answer_built::<N>(alloc, plan, order)
-    } else {
-        Ok(Answer::Unbuilt)
-    }
-}
-
-#[tactic(auto, using(crate::proofs::RequestOutcomes::opened_within, crate::proofs::RequestOutcomes::opened_long))]
-fn answer_built<N: RunName>(
-    alloc: Global,
-    plan: &Plan,
-    order: &[Actor],
-) -> Result<Answer, AllocError>
-    requires { all_built plan.now ≡ true }
-    ensures { IfOk result
-        (λ a. IsOf a
-        (opened plan.now order.now (first_too_long plan.now.limit (opening plan.now)))) }
 {
     match World::<N>::open(alloc, plan) {
         Ok(mut world) => answer_world(alloc, &mut world, order),
@@ -94,8 +73,7 @@ fn answer_world<N: RunName>(
     world: &mut World<N>,
     order: &[Actor],
 ) -> Result<Answer, AllocError>
-    requires built { all_built world.old.plan ≡ true }
-    requires open { world.old.order ≡ [] }
+    requires { world.old.order ≡ [] }
     ensures { IfOk result
         (λ a. IsOf a (taken world.old.plan order.now (first_bad_place world.old.plan order.now))) }
 {

@@ -9,7 +9,7 @@ pub enum Status {
     Done,
     /// The words have no form.
     Usage,
-    /// The text is no plan of the form that is built.
+    /// The text is no plan.
     Plan,
     /// The source failed.
     Read,

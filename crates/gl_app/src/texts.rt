@@ -118,5 +118,6 @@ fn reason_name(reason: Reason) -> &'static [u8]
         Reason::NoWriter => b"no-writer",
         Reason::NoSection => b"no-section",
         Reason::NoProxy => b"no-proxy",
+        Reason::EmptyQueue => b"empty-queue",
     }
 }
