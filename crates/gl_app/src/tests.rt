@@ -12,7 +12,8 @@ const PLAN: &[u8] = b"glaze 1\nsource s\nwriter\nsection\nadd s 5\n";
 
 const WRITTEN: &[u8] = b"glaze 1\nlimit 16777216\nsource s\nwriter\nsection\nadd s 5\n";
 
-const PROXY: &[u8] = b"glaze 1\nsource s\nproxy p s\nlisten a on p\nwriter\nsection\nadd s 1\nsection\nadd s 2\n";
+const PROXY: &[u8] =
+    b"glaze 1\nsource s\nproxy p s\nlisten a on p\nwriter\nsection\nadd s 1\nsection\nadd s 2\n";
 
 const REPORT: &[u8] = b"order w0\nat 0 w0\nreply 0 ok\nlist s [5]\n";
 

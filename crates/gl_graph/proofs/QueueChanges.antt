@@ -1,7 +1,6 @@
 -- A graph in which one proxy has more room in its queue, or one delta more: it shows what it did.
-use Rattle.std.proofs.Common.{◌≡◌, ◌≢◌, ◌∙◌, ◌⊎◌, ℕ, zero, suc, ◌<◌, ◌≤◌, Bool, true, false, List, [], ◌∷◌, ◌++◌, length, map, refl, ap, sym, subst, arith, inl, inr, eqb}
+use Rattle.std.proofs.Common.{◌≡◌, ◌≢◌, ◌∙◌, ◌⊎◌, ℕ, zero, suc, ◌<◌, ◌≤◌, Bool, true, false, List, [], ◌∷◌, length, map, refl, ap, sym, subst, arith, inl, inr, eqb}
 use Rattle.std.specs.Prelude.{Option, Some, None, Result, Ok, Err, OnOk, unwrap_or, slice_get, slice_set, slice_index, slice_index_or}
-use Rattle.std.specs.List.{Contains}
 use Rattle.std.proofs.lemmas.Bool.{eqb-true, eqb-false, cases_lt}
 use Rattle.std.proofs.lemmas.Option.{get_or_from_slice_get}
 use Rattle.spec_states.specs.Tree.{Tree}
@@ -11,7 +10,7 @@ use Rattle.spec_states.specs.DependencyOrder.{dependency_order as order_by}
 use Rattle.spec_states.specs.State.{Own, State, source, over, composite, transaction, freezable, proxy, inputs, own_at, edges_of, dependency_order}
 use Rattle.spec_states.specs.Shown.{Table, shown_of, shows_in, settle_one, settled, nothing_shown, table_of, shown}
 use Rattle.spec_states.specs.Step.{first_longer}
-use Rattle.spec_states.specs.Laws.{LedTo, since_frozen, IsSource, Fits, IsSound}
+use Rattle.spec_states.specs.Laws.{LedTo, since_frozen, IsSource, Fits}
 use Rattle.spec_states.proofs.Views.{own_past}
 use Rattle.gl_graph.specs.declared.node.Node.{Node}
 use Rattle.gl_graph.specs.declared.keeps.Keeps.{Keeps}
@@ -384,9 +383,9 @@ longer limit positions list d old new graph leads h = record {
     own_cases : (k : ℕ) → ((k ≡ list) × (own_at t k ≡ with_one_queued d (own_at s list))) ⊎ ((k ≢ list) × (own_at t k ≡ own_at s k))
     own_cases k = elim (cases_lt k (length positions)) [
       | inl within ↦ elim (at_place old new position (slice_index positions k) h.was h.now h.set) [
-          | inl here ↦ inl (same_place k within here.0, own_at_state new positions k within ∙ (ap own_of_node here.1 ∙ now_own))
-          | inr there ↦ inr ((λ e. there.0 (ap (slice_index positions) e)), own_at_state new positions k within ∙ (ap own_of_node there.1 ∙ sym (own_at_state old positions k within)))
-        ]
+        | inl here ↦ inl (same_place k within here.0, own_at_state new positions k within ∙ (ap own_of_node here.1 ∙ now_own))
+        | inr there ↦ inr ((λ e. there.0 (ap (slice_index positions) e)), own_at_state new positions k within ∙ (ap own_of_node there.1 ∙ sym (own_at_state old positions k within)))
+      ]
       | inr past ↦ inr ((λ e. omega (arith, past, e, list_within)), own_past t k (omega (arith, past, long_state new positions)) ∙ sym (own_past s k (omega (arith, past, long_state old positions))))
     ]
 

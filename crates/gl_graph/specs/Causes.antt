@@ -1,5 +1,5 @@
 -- What makes a wave in a graph: a command for a list that it suits, or the pump of a proxy.
-use Rattle.std.specs.Prelude.{◌≡◌, ⊤, ℕ, [], ◌∷◌, Option, Some, None}
+use Rattle.std.specs.Prelude.{⊤, ℕ, ◌∷◌, Option, Some, None}
 use Rattle.std.specs.Option.{option_or}
 use Rattle.spec_states.specs.Reply.{Reply}
 use Rattle.spec_states.specs.State.{Own, State, proxy, own_at}

@@ -180,11 +180,7 @@ impl Graph {
 
     /// Takes the first queued delta of a proxy, and no more, to each list that depends on it: wholly, or not at all. It
     /// takes memory for the changes.
-    pub fn pump<L: Ledger>(
-        &mut self,
-        list: u32,
-        steps: &mut Steps<L>,
-    ) -> Result<Wave, PumpFault>
+    pub fn pump<L: Ledger>(&mut self, list: u32, steps: &mut Steps<L>) -> Result<Wave, PumpFault>
         requires proxy { IsProxy (own_at (state_of self.old) list) }
         requires short { too_long self.old.limit (wave (state_of self.old) (made_by_pump list))
             ≡ None }

@@ -1,10 +1,10 @@
-use Rattle.std.proofs.Common.{◌≡◌, ◌<◌, ◌∙◌, length, ap, sym, subst, arith}
-use Rattle.std.specs.Prelude.{OnOk, slice_get, slice_index}
+use Rattle.std.proofs.Common.{◌∙◌, ap, sym, subst, arith}
+use Rattle.std.specs.Prelude.{slice_index}
 use Rattle.std.proofs.lemmas.Grind.{get_or_default_zero}
 use Rattle.spec_states.specs.State.{own_at}
 use Rattle.gl_graph.specs.Graph.{Kept, state_of}
 use Rattle.gl_graph.specs.Waves.{contents, HaveRoomOf}
-use Rattle.gl_graph.specs.Queues.{IsProxy, IsProxyAt, CanQueueAt, CanQueueIn, IsReservedAt, HasQueueRoom}
+use Rattle.gl_graph.specs.Queues.{IsProxy, IsProxyAt, CanQueueIn, HasQueueRoom}
 use Rattle.gl_graph.proofs.QueueChanges.{proxy_within, proxy_at, room_at, roomier, roomy_contents}
 use Rattle.gl_graph.proofs.Alike.{graph_same}
 use Rattle.gl_graph.proofs.graph.Graph.reserve_queue.Goals as goal
