@@ -32,5 +32,7 @@ pub mod Ends
 pub mod Steps
 pub mod Splits
 pub mod Standing
+pub mod Copies
+pub mod AlikeStates
 pub mod QueueChanges
 pub mod Pumping

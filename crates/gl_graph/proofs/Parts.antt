@@ -1,4 +1,4 @@
--- Which part a list has in a wave: it is the source of a rollback, the one that the command is about, or another.
+-- Which part a list has in a wave: it is the source of a rollback, the one that the cause is about, or another.
 use Rattle.std.proofs.Common.{◌≡◌, ◌≢◌, ℕ, List, refl, sym, subst}
 use Rattle.std.specs.Prelude.{Option, Some, None, Result, Ok, Err, IfOk, IfErr}
 use Rattle.spec_states.specs.Tree.{Tree}
@@ -41,7 +41,7 @@ source_stopped (Err why) limit rollback shows cause deltas list own d for stop =
     let at = source_at list rollback d for in
     IsStopped.source_stops at.back at.is at.list_is (subst (λ (m : DeltaModel). IsSourceStopped limit shows m.pieces list own why) (sym at.delta_is) stop)
 
--- the list that the command is about, and any other
+-- the list that the cause is about, and any other
 pub own_stopped : (r : Result Turned Refused) (limit : ℕ) (rollback : Option Rollback) (shows : ℕ → List Tree) (cause : Cause) (deltas : List (Option DeltaModel)) (list : ℕ) (own : Own)
     → list ≡ subject cause → IfErr r (IsOwnStopped limit shows cause list own) → IfErr r (IsStopped limit rollback shows cause deltas list own)
 own_stopped (Ok turned) limit rollback shows cause deltas list own same stop = tt

@@ -1,29 +1,29 @@
 -- A graph in which one proxy has more room in its queue, or one delta more: it shows what it did.
-use Rattle.std.proofs.Common.{◌≡◌, ◌≢◌, ◌∙◌, ◌⊎◌, ℕ, zero, suc, ◌<◌, ◌≤◌, Bool, true, false, List, [], ◌∷◌, length, map, refl, ap, sym, subst, arith, inl, inr, eqb}
+use Rattle.std.proofs.Common.{◌≡◌, ◌≢◌, ◌∙◌, ◌⊎◌, ℕ, zero, suc, ◌<◌, ◌≤◌, Bool, true, false, List, [], ◌∷◌, length, refl, ap, sym, subst, arith, inl, inr, eqb}
 use Rattle.std.specs.Prelude.{Option, Some, None, Result, Ok, Err, OnOk, unwrap_or, slice_get, slice_set, slice_index, slice_index_or}
 use Rattle.std.proofs.lemmas.Bool.{eqb-true, eqb-false, cases_lt}
 use Rattle.std.proofs.lemmas.Option.{get_or_from_slice_get}
 use Rattle.spec_states.specs.Tree.{Tree}
 use Rattle.spec_states.specs.Delta.{Delta}
-use Rattle.spec_states.specs.Plan.{edges_from}
-use Rattle.spec_states.specs.DependencyOrder.{dependency_order as order_by}
 use Rattle.spec_states.specs.State.{Own, State, source, over, composite, transaction, freezable, proxy, inputs, own_at, edges_of, dependency_order}
-use Rattle.spec_states.specs.Shown.{Table, shown_of, shows_in, settle_one, settled, nothing_shown, table_of, shown}
+use Rattle.spec_states.specs.Shown.{shown_of, shows_in, settled, nothing_shown, table_of, shown}
 use Rattle.spec_states.specs.Step.{first_longer}
 use Rattle.spec_states.specs.Laws.{LedTo, since_frozen, IsSource, Fits}
 use Rattle.spec_states.proofs.Views.{own_past}
 use Rattle.gl_graph.specs.declared.node.Node.{Node}
 use Rattle.gl_graph.specs.declared.keeps.Keeps.{Keeps}
 use Rattle.gl_graph.specs.declared.keeps.Keeps.TheVariants.{Source, Over, Composite, Held, Proxy}
-use Rattle.gl_graph.specs.declared.held.Held.TheVariants as h
-use Rattle.gl_graph.specs.Nodes.{own_of, own_of_node, numbers, state_of, shown_by, IsPlaced, AreInTurn, AreAmong, StandsFor}
+use Rattle.gl_graph.specs.Nodes.{own_of, own_of_node, numbers, state_of, shown_by, IsPlaced, AreInTurn, StandsFor}
 use Rattle.gl_graph.specs.Graph.{IsLimited, IsGraph}
-use Rattle.gl_graph.specs.Room.{Room, IsNoMore}
+use Rattle.gl_graph.specs.Room.{IsNoMore}
 use Rattle.gl_graph.specs.Undos as keeps
 use Rattle.gl_graph.specs.Waves.{Contents, contents, contents_of, HaveRoomOf}
-use Rattle.gl_graph.specs.Spread.{IsSetAt}
+use Rattle.gl_graph.specs.Spread.{IsCopy, IsSetAt}
 use Rattle.gl_graph.specs.Queues.{IsProxy, LeadsOn, with_one_queued, CanQueue, CanQueueAt, CanQueueIn, IsProxyAt, LeadsOnAt, IsReserved, IsReservedAt, IsQueuedAt}
 use Rattle.gl_graph.proofs.NoMore.{no_more}
+use Rattle.gl_graph.proofs.AlikeStates.{AreAlike, same_nothing, same_edges, same_order, same_settled, same_table}
+use Rattle.gl_graph.proofs.Copies.{is_copy, copy_among, copy_stands, copy_limited}
+use Rattle.gl_graph.proofs.Starts.{same_state}
 use Rattle.gl_graph.proofs.Inputs.{own_at_state, long_state, stands_local}
 use Rattle.gl_graph.proofs.Shown.{order_of_settled}
 use Rattle.gl_graph.proofs.Prefixes.{node_of}
@@ -56,13 +56,12 @@ leads_within nodes positions list d h = proxy_within nodes positions list (leads
 pub record IsNodeFor (nodes : List Node) (positions : List ℕ) (list : ℕ) : Type 0 where
   pub node : Node
   pub there : slice_get nodes (slice_index positions list) ≡ Some node
-  pub list_is : node.list ≡ list
   pub own : own_at (state_of nodes positions) list ≡ own_of node.keeps
 
 pub node_for : (limit : ℕ) (nodes : List Node) (positions : List ℕ) (list : ℕ) → IsGraph limit nodes positions → list < length positions → IsNodeFor nodes positions list
 node_for limit nodes positions list graph within =
     let n = node_of nodes (slice_index positions list) list (graph.placed list within).there in
-    record { node = n.node; there = n.is; list_is = n.same; own = own_at_state nodes positions list within ∙ ap own_of_node n.is }
+    record { node = n.node; there = n.is; own = own_at_state nodes positions list within ∙ ap own_of_node n.is }
 
 pub proxy_at : (limit : ℕ) (nodes : List Node) (positions : List ℕ) (list : ℕ) → IsGraph limit nodes positions → IsProxy (own_at (state_of nodes positions) list) → IsProxyAt (slice_index positions list) nodes
 proxy_at limit nodes positions list graph h =
@@ -152,9 +151,6 @@ same_node {x} {y} e f = let both : Some x ≡ Some y = sym e ∙ f in cc
 was_here : (old : List Node) (q p : ℕ) (was : Node) → slice_get old q ≡ Some was → p ≡ q → slice_get old p ≡ Some was
 was_here old q p was e same = ap (slice_get old) same ∙ e
 
-more_on : {a b c : Room} → IsNoMore a b → IsNoMore b c → IsNoMore a c
-more_on h k = record { kept = omega (arith, h.kept, k.kept); members = omega (arith, h.members, k.members); sorted = omega (arith, h.sorted, k.sorted); firsts = omega (arith, h.firsts, k.firsts) }
-
 pub record IsRoomier (old new : List Node) : Type 0 where
   pub numbers_are : numbers new ≡ numbers old
   pub contents_are : contents_of new ≡ contents_of old
@@ -192,41 +188,6 @@ roomy_contents limit positions old new h =
     made_of ns ks = record { limit = limit; numbers = ns; lists = ks; positions = positions }
 
 -- ---- one delta more
-
--- states of which each list depends on the same lists and shows the same of what they show
-record AreAlike (s t : State) : Type 0 where
-  long : length t ≡ length s
-  inputs_are : (k : ℕ) → inputs (own_at t k) ≡ inputs (own_at s k)
-  shows : (k : ℕ) (f : ℕ → List Tree) → shown_of (own_at t k) f ≡ shown_of (own_at s k) f
-
-same_inputs : (s t : State) → length t ≡ length s → ((k : ℕ) → inputs (own_at t k) ≡ inputs (own_at s k)) → map inputs t ≡ map inputs s
-same_inputs [] [] long same = refl
-same_inputs [] (p ∷ t) long same = absurd (omega (arith, long))
-same_inputs (o ∷ s) [] long same = absurd (omega (arith, long))
-same_inputs (o ∷ s) (p ∷ t) long same =
-    ap (λ is. is ∷ map inputs t) (same 0) ∙ ap (λ rest. inputs o ∷ rest) (same_inputs s t (omega (arith, long)) (λ k. same (suc k)))
-
-same_nothing : (s t : State) → length t ≡ length s → nothing_shown t ≡ nothing_shown s
-same_nothing [] [] long = refl
-same_nothing [] (p ∷ t) long = absurd (omega (arith, long))
-same_nothing (o ∷ s) [] long = absurd (omega (arith, long))
-same_nothing (o ∷ s) (p ∷ t) long = ap (λ rows. [] ∷ rows) (same_nothing s t (omega (arith, long)))
-
-same_edges : (s t : State) → AreAlike s t → edges_of t ≡ edges_of s
-same_edges s t h = ap (edges_from 0) (same_inputs s t h.long h.inputs_are)
-
-same_order : (s t : State) → AreAlike s t → dependency_order t ≡ dependency_order s
-same_order s t h = ap (λ n. order_by n (edges_of t)) h.long ∙ ap (order_by (length s)) (same_edges s t h)
-
-same_settled : (s t : State) (u : Table) (lists : List ℕ) → AreAlike s t → settled t u lists ≡ settled s u lists
-same_settled s t u [] h = refl
-same_settled s t u (list ∷ lists) h =
-    same_settled s t (settle_one t u list) lists h ∙ ap (λ v. settled s v lists) (ap (slice_set u list) (h.shows list (shows_in u)))
-
-same_table : (s t : State) → AreAlike s t → table_of t ≡ table_of s
-same_table s t h =
-    ap (λ u. settled t u (dependency_order t)) (same_nothing s t h.long)
-    ∙ (ap (settled t (nothing_shown s)) (same_order s t h) ∙ same_settled s t (nothing_shown s) (dependency_order s) h)
 
 queued_inputs : (d : Delta) (own : Own) → inputs (with_one_queued d own) ≡ inputs own
 queued_inputs d (proxy input kept queue) = refl
@@ -276,35 +237,6 @@ fits_still s t (transaction input levels) same sources h = (sources input h.0, s
 fits_still s t (freezable input since) same sources h = subst (LedTo (since_frozen since)) (sym (same input)) h
 fits_still s t (proxy input kept queue) same sources h = h
 
-copy_among : (keeps : Keeps) → IsProxy (own_of keeps) → AreAmong keeps
-copy_among (Proxy input p) h = tt
-copy_among (Source k) h = tt
-copy_among (Over input d) h = tt
-copy_among (Composite needed k) h = absurd h
-copy_among (Held input held) h = tt
-
-copy_stands : (keeps : Keeps) (f : ℕ → List Tree) → IsProxy (own_of keeps) → StandsFor keeps f
-copy_stands (Proxy input p) f h = tt
-copy_stands (Source k) f h = tt
-copy_stands (Over input d) f h = absurd h
-copy_stands (Composite needed k) f h = absurd h
-copy_stands (Held input (h.Transaction t)) f h = absurd h
-copy_stands (Held input (h.Freezable since)) f h = absurd h
-
-copy_limited : (limit : ℕ) (keeps : Keeps) → IsProxy (own_of keeps) → IsLimited limit keeps
-copy_limited limit (Proxy input p) h = tt
-copy_limited limit (Source k) h = absurd h
-copy_limited limit (Over input d) h = absurd h
-copy_limited limit (Composite needed k) h = absurd h
-copy_limited limit (Held input held) h = tt
-
-same_state : (s t : State) → length s ≡ length t → ((k : ℕ) → k < length s → own_at s k ≡ own_at t k) → s ≡ t
-same_state [] [] long same = refl
-same_state [] (p ∷ t) long same = absurd (omega (arith, long))
-same_state (o ∷ s) [] long same = absurd (omega (arith, long))
-same_state (o ∷ s) (p ∷ t) long same =
-    ap (λ x. x ∷ s) (same 0 (omega arith)) ∙ ap (λ xs. p ∷ xs) (same_state s t (omega (arith, long)) (λ k within. same (suc k) (omega (arith, within))))
-
 -- the graph with it
 pub record IsLonger (limit : ℕ) (positions : List ℕ) (list : ℕ) (d : Delta) (old new : List Node) : Type 0 where
   pub graph : IsGraph limit new positions
@@ -329,7 +261,7 @@ longer limit positions list d old new graph leads h = record {
       few = few p n at;
     };
     limited = λ p n at. elim (at_place old new position p h.was h.now h.set) [
-      | inl here ↦ subst (λ (m : Node). IsLimited limit m.keeps) (same_node here.1 at) (copy_limited limit h.now.keeps is_proxy)
+      | inl here ↦ subst (λ (m : Node). IsLimited limit m.keeps) (same_node here.1 at) (copy_limited limit h.now.keeps copy)
       | inr there ↦ graph.limited p n (sym there.1 ∙ at)
     ];
     within = ap (λ u. first_longer limit u (dependency_order t)) (same_table s t alike) ∙ (ap (first_longer limit (table_of s)) (same_order s t alike) ∙ graph.within);
@@ -365,8 +297,8 @@ longer limit positions list d old new graph leads h = record {
     now_own : own_of h.now.keeps ≡ with_one_queued d (own_at s list)
     now_own = h.own ∙ ap (with_one_queued d) (sym was_own)
 
-    is_proxy : IsProxy (own_of h.now.keeps)
-    is_proxy = subst IsProxy (sym now_own) (queued_proxy d (own_at s list) (leads_proxy d (own_at s list) leads))
+    copy : IsCopy h.now.keeps
+    copy = is_copy h.now.keeps (subst IsProxy (sym now_own) (queued_proxy d (own_at s list) (leads_proxy d (own_at s list) leads)))
 
     numbers_are : numbers new ≡ numbers old
     numbers_are = ap numbers h.set.is ∙ set_numbers old position h.was h.now h.set.there h.set.list
@@ -439,11 +371,11 @@ longer limit positions list d old new graph leads h = record {
     dependency_order_new : AreInTurn new positions
     dependency_order_new =
         set_order old new positions position h.was h.now h.set
-        (ap inputs now_own ∙ (queued_inputs d (own_at s list) ∙ ap inputs was_own)) (copy_among h.now.keeps is_proxy) (order_of_settled old positions graph.settled)
+        (ap inputs now_own ∙ (queued_inputs d (own_at s list) ∙ ap inputs was_own)) (copy_among h.now.keeps copy) (order_of_settled old positions graph.settled)
 
     stands : (p : ℕ) (n : Node) → slice_get new p ≡ Some n → StandsFor n.keeps (shown_by new positions)
     stands p n at = elim (at_place old new position p h.was h.now h.set) [
-      | inl here ↦ subst (λ (m : Node). StandsFor m.keeps (shown_by new positions)) (same_node here.1 at) (copy_stands h.now.keeps (shown_by new positions) is_proxy)
+      | inl here ↦ subst (λ (m : Node). StandsFor m.keeps (shown_by new positions)) (same_node here.1 at) (copy_stands h.now.keeps (shown_by new positions) copy)
       | inr there ↦
           stands_local n.keeps (shown_by old positions) (shown_by new positions) (graph.settled p n (sym there.1 ∙ at)).turn.among
           (λ i c. sym (shows_by i)) (graph.settled p n (sym there.1 ∙ at)).stands

@@ -78,7 +78,7 @@ kept_long {limit = limit} {old = old} {positions = positions} {cause = cause} {q
     long_refused t inside (omega (arith, is.past, len_is))
     ∙ (ap (λ n. Some (reply.TooLong was.list n)) (sym len_is) ∙ ap (λ l. Some (reply.TooLong l len)) (sym is_number))
 
--- what the list that a command is about answers is the answer
+-- what the list that a cause is about answers is the answer
 answered : {limit : ℕ} {old : List Node} {positions : List ℕ} {cause : Cause} {rollback : Option Rollback} {q : ℕ} {nodes : List Node} {told : List (Option DeltaModel)} {was : Node} (answer : Reply)
     → IsTurn limit old positions cause rollback q nodes told was → was.list ≡ subject cause → refused_of (own_of was.keeps) cause ≡ Some answer
     → unmoved_of limit (state_of old positions) cause ≡ Some answer
@@ -102,7 +102,7 @@ source_refused back AlreadyFrozen t is same h = absurd h
 source_refused back NotFrozen t is same h = absurd h
 source_refused back NotOpen t is same h = absurd h
 
--- the list that a command is about refuses it, or would be too long
+-- the list that a cause is about refuses it, or would be too long
 own_refused : {limit : ℕ} {old : List Node} {positions : List ℕ} {cause : Cause} {rollback : Option Rollback} {q : ℕ} {nodes : List Node} {told : List (Option DeltaModel)} {was : Node} (why : Refused)
     → IsTurn limit old positions cause rollback q nodes told was → was.list ≡ subject cause
     → IsOwnStopped limit (shown_by (take q nodes) positions) cause was.list (own_of was.keeps) why → IsStopping limit (state_of old positions) cause why

@@ -1,10 +1,10 @@
 -- The list whose turn it is where nothing is told of it: it keeps something else in silence, or is as it was.
-use Rattle.std.proofs.Common.{◌≡◌, ◌≢◌, ◌∙◌, ◌⊎◌, ℕ, suc, ◌<◌, true, false, List, length, take, refl, ap, sym, subst, arith, inl, inr}
+use Rattle.std.proofs.Common.{◌≡◌, ◌≢◌, ◌∙◌, ℕ, suc, ◌<◌, true, false, List, length, take, refl, ap, sym, subst, arith, inl, inr}
 use Rattle.std.specs.Prelude.{Option, Some, None, slice_index, slice_index_or}
 use Rattle.std.specs.List.{Contains}
 use Rattle.spec_basics.proofs.Numbers.{not_equal}
 use Rattle.spec_states.specs.Tree.{Tree}
-use Rattle.spec_states.specs.Delta.{Delta, no_change}
+use Rattle.spec_states.specs.Delta.{no_change}
 use Rattle.gl_source.specs.Model.{DeltaModel}
 use Rattle.spec_states.specs.State.{State, inputs, own_at}
 use Rattle.spec_states.specs.Shown.{is_held, shown_of, shown}
@@ -13,8 +13,6 @@ use Rattle.spec_states.proofs.Views.{shown_local, shown_in, shown_is, wave_order
 use Rattle.spec_states.proofs.Waves.{begin_of, told_as, delta_now}
 use Rattle.spec_states.proofs.Quiet.{InputsUntold, quiet_told, quiet_kept, untold_shown}
 use Rattle.gl_graph.specs.declared.node.Node.{Node}
-use Rattle.gl_graph.specs.declared.keeps.Keeps.{Keeps}
-use Rattle.gl_graph.specs.declared.keeps.Keeps.TheVariants.{Source, Over, Composite, Held, Proxy}
 use Rattle.gl_graph.specs.declared.keeps.KeepsUndo.{KeepsUndo}
 use Rattle.gl_graph.specs.declared.turned.Turned.TheVariants.{Stays, Silent}
 use Rattle.gl_graph.specs.declared.rollback.Rollback.{Rollback}
@@ -25,6 +23,7 @@ use Rattle.gl_graph.specs.Spread.{delta_told, HasBegun, IsStep, IsQuietOwn, IsKe
 use Rattle.gl_graph.proofs.Inputs.{inward, long_state, each_input, stands_local, later_local}
 use Rattle.gl_graph.proofs.WholeWaves.{taken_of, graph_inward}
 use Rattle.gl_graph.proofs.Rollbacks.{begins_as, not_begun, IsRolled, back_of, level_held, level_input}
+use Rattle.gl_graph.proofs.Copies.{copy_held, copy_later, copy_shows, copy_stands}
 use Rattle.gl_graph.proofs.Next.{IsTurn, long_wave, begun_or, begun_later, begins_next, still_told, told_late, input_told}
 use Rattle.gl_graph.proofs.Turns.{IsOn, IsStill, IsOnBy, turned, own_early, own_late, own_rest, own_keeps}
 use Rattle.gl_graph.specs.Causes.{begin_at, refusal_of, refused_of}
@@ -69,7 +68,7 @@ not_here {old = old} {positions = positions} {cause = cause} {was = was} t same 
     by_begin None e = ap (λ o. is_at o was.list) e
     by_begin (Some i) e = ap (λ o. is_at o was.list) e ∙ not_equal was.list i (λ f. elsewhere (sym here ∙ (e ∙ ap (λ (n : ℕ). Some n) (sym f))))
 
--- the list that a command is about, where its wave begins at none
+-- the list that a cause is about, where its wave begins at none
 own_quiet : {limit : ℕ} {old : List Node} {positions : List ℕ} {cause : Cause} {rollback : Option Rollback} {q : ℕ} {nodes : List Node} {told : List (Option DeltaModel)} {was now : Node} {undo : KeepsUndo}
     → IsTurn limit old positions cause rollback q nodes told was → was.list ≡ subject cause → IsQuietOwn (shown_by (take q nodes) positions) cause was.list was.keeps now.keeps undo
     → rollback ≡ None → IsQuiet old positions cause rollback q nodes was now undo
@@ -169,6 +168,14 @@ starts_elsewhere : (o : Option Rollback) (cause : Cause) (list : ℕ) → list �
 starts_elsewhere None cause list other free e = other e
 starts_elsewhere (Some back) cause list other free e = free e
 
+-- what has begun once it has had its turn had begun before
+stays_inside : {limit : ℕ} {old : List Node} {positions : List ℕ} {cause : Cause} {rollback : Option Rollback} {q : ℕ} {nodes : List Node} {told : List (Option DeltaModel)} {was : Node}
+    → IsTurn limit old positions cause rollback q nodes told was → was.list ≢ subject cause → ¬ IsSourceOf was.list rollback → HasBegun positions rollback cause (suc q) → refusal_of (state_of old positions) cause ≡ None
+stays_inside {positions = positions} {cause = cause} {rollback = rollback} {q = q} {was = was} t other apart later = elim (begun_or positions rollback cause q) [
+  | inl begun ↦ t.are.inside begun
+  | inr early ↦ absurd (starts_elsewhere rollback cause was.list other apart (sym (begins_next t later early)))
+]
+
 left : {limit : ℕ} {old : List Node} {positions : List ℕ} {cause : Cause} {rollback : Option Rollback} {q : ℕ} {nodes : List Node} {told : List (Option DeltaModel)} {was now : Node}
     → IsTurn limit old positions cause rollback q nodes told was → was.list ≢ subject cause → ¬ IsSourceOf was.list rollback → now.keeps ≡ was.keeps
     → OnInput (λ i. slice_index_or told i None ≡ None) was.keeps
@@ -180,7 +187,7 @@ left {limit = limit} {old = old} {positions = positions} {cause = cause} {rollba
     own = ap own_of same ∙ (sym t.next.own ∙ sym own);
     stands = subst (λ k. StandsFor k (shown_by (take q nodes) positions)) (sym same)
         (stands_local was.keeps (shown s) (shown_by (take q nodes) positions) t.next.turn.among (λ i d. sym (t.next.shows i d ∙ stays i d)) t.next.stands);
-    inside = λ later. by_begun later (begun_or positions rollback cause q);
+    inside = λ later. stays_inside t other apart later;
   };
   still = record {
     told = quiet_told s cause was.list t.begun.graph.sound t.next.within at quiet;
@@ -216,39 +223,7 @@ left {limit = limit} {old = old} {positions = positions} {cause = cause} {rollba
     own : own_at w was.list ≡ own_at s was.list
     own = quiet_kept s cause was.list t.begun.graph.sound t.next.within (not_equal was.list (subject cause) other) at quiet
 
-    by_begun : HasBegun positions rollback cause (suc q) → HasBegun positions rollback cause q ⊎ (HasBegun positions rollback cause q → ⊥) → refusal_of s cause ≡ None
-    by_begun later (inl begun) = t.are.inside begun
-    by_begun later (inr early) = absurd (starts_elsewhere rollback cause was.list other apart (sym (begins_next t later early)))
-
 -- a proxy stays, whatever its input tells
-copy_held : (keeps : Keeps) → IsCopy keeps → is_held (own_of keeps) ≡ true
-copy_held (Proxy input p) copy = refl
-copy_held (Source k) copy = absurd copy
-copy_held (Over input d) copy = absurd copy
-copy_held (Composite needed k) copy = absurd copy
-copy_held (Held input h) copy = absurd copy
-
-copy_later : (list : ℕ) (keeps : Keeps) (delta : ℕ → Delta) → IsCopy keeps → kept_later list (own_of keeps) delta ≡ own_of keeps
-copy_later list (Proxy input p) delta copy = refl
-copy_later list (Source k) delta copy = absurd copy
-copy_later list (Over input d) delta copy = absurd copy
-copy_later list (Composite needed k) delta copy = absurd copy
-copy_later list (Held input h) delta copy = absurd copy
-
-copy_shows : (keeps : Keeps) (f g : ℕ → List Tree) → IsCopy keeps → shown_of (own_of keeps) f ≡ shown_of (own_of keeps) g
-copy_shows (Proxy input p) f g copy = refl
-copy_shows (Source k) f g copy = absurd copy
-copy_shows (Over input d) f g copy = absurd copy
-copy_shows (Composite needed k) f g copy = absurd copy
-copy_shows (Held input h) f g copy = absurd copy
-
-copy_stands : (keeps : Keeps) (f : ℕ → List Tree) → IsCopy keeps → StandsFor keeps f
-copy_stands (Proxy input p) f copy = tt
-copy_stands (Source k) f copy = absurd copy
-copy_stands (Over input d) f copy = absurd copy
-copy_stands (Composite needed k) f copy = absurd copy
-copy_stands (Held input h) f copy = absurd copy
-
 copied : {limit : ℕ} {old : List Node} {positions : List ℕ} {cause : Cause} {rollback : Option Rollback} {q : ℕ} {nodes : List Node} {told : List (Option DeltaModel)} {was now : Node}
     → IsTurn limit old positions cause rollback q nodes told was → was.list ≢ subject cause → ¬ IsSourceOf was.list rollback → now.keeps ≡ was.keeps → IsCopy was.keeps
     → IsAsItWas old positions cause rollback q nodes was now
@@ -258,7 +233,7 @@ copied {limit = limit} {old = old} {positions = positions} {cause = cause} {roll
     limit = ap limit_of same;
     own = ap own_of same ∙ (sym t.next.own ∙ sym own);
     stands = subst (λ k. StandsFor k (shown_by (take q nodes) positions)) (sym same) (copy_stands was.keeps (shown_by (take q nodes) positions) copy);
-    inside = λ later. by_begun later (begun_or positions rollback cause q);
+    inside = λ later. stays_inside t other apart later;
   };
   still = record {
     told = held_delta t (not_begun s cause rollback was.list t.begun.is_rollback other apart) (ap is_held t.next.own ∙ copy_held was.keeps copy);
@@ -283,10 +258,6 @@ copied {limit = limit} {old = old} {positions = positions} {cause = cause} {roll
     own = own_rest s cause was.list t.next.within other
         ∙ (ap (λ o. kept_later was.list o (delta_in (wave_deltas s cause))) t.next.own
         ∙ (copy_later was.list was.keeps (delta_in (wave_deltas s cause)) copy ∙ sym t.next.own))
-
-    by_begun : HasBegun positions rollback cause (suc q) → HasBegun positions rollback cause q ⊎ (HasBegun positions rollback cause q → ⊥) → refusal_of s cause ≡ None
-    by_begun later (inl begun) = t.are.inside begun
-    by_begun later (inr early) = absurd (starts_elsewhere rollback cause was.list other apart (sym (begins_next t later early)))
 
 pub as_it_was : {limit : ℕ} {old : List Node} {positions : List ℕ} {cause : Cause} {rollback : Option Rollback} {q : ℕ} {nodes : List Node} {told : List (Option DeltaModel)} {was now : Node}
     → IsTurn limit old positions cause rollback q nodes told was → IsStep rollback (shown_by (take q nodes) positions) cause told was.list was.keeps now.keeps Stays

@@ -82,7 +82,7 @@ here_late positions q list at = omega (arith, at)
 here_early : (positions : List ℕ) (q list : ℕ) → slice_index positions list ≡ q → slice_index positions list < q → ⊥
 here_early positions q list at low = omega (arith, at, low)
 
--- where the list is the one that a command is about, and the command no rollback, the wave hasn't begun before it
+-- where the list is the one that a cause is about, and the cause no rollback, the wave hasn't begun before it
 pub own_early : {limit : ℕ} {old : List Node} {positions : List ℕ} {cause : Cause} {rollback : Option Rollback} {q : ℕ} {nodes : List Node} {told : List (Option DeltaModel)} {was : Node}
     → IsTurn limit old positions cause rollback q nodes told was → was.list ≡ subject cause → rollback ≡ None → HasBegun positions rollback cause q → ⊥
 own_early {positions = positions} {cause = cause} {rollback = rollback} {q = q} {was = was} t same none begun =
@@ -123,7 +123,7 @@ source_keeps {old = old} {positions = positions} {cause = cause} {was = was} bac
     (sym (source_delta back t is same))
     ∙ sym (own_rest s cause was.list t.next.within (λ e. takes.apart (sym same ∙ e))))
 
--- the list that a command is about
+-- the list that a cause is about
 pub own_keeps : {limit : ℕ} {old : List Node} {positions : List ℕ} {cause : Cause} {rollback : Option Rollback} {q : ℕ} {nodes : List Node} {told : List (Option DeltaModel)} {was : Node}
     → IsTurn limit old positions cause rollback q nodes told was → was.list ≡ subject cause
     → kept_by cause (shown_by (take q nodes) positions) (own_of was.keeps) ≡ own_at (wave (state_of old positions) cause) was.list
